@@ -1,0 +1,29 @@
+// Standard input, for the programs: a read that fails is told apart from an input that ends.
+ghost use lib.ListN.{length};
+ghost use Rattle.input.specs.Input.{Within};
+use libc::STDIN_FILENO;
+
+// How many bytes of the buffer the input has filled, or that a read failed.
+pub enum Input {
+    Bytes(usize),
+    Failed,
+}
+
+// Reads, piece by piece, until the input ends or the buffer is full.
+pub fn read_all(buf: &mut [u8]) -> Input
+    ensures { λ r. ⌜ Within r (length (now (buf .exit))) ⌝ }
+{
+    let mut n = 0;
+    while n < buf.len() {
+        let got = libc::read(STDIN_FILENO, &mut buf[n..]);
+        if got < 0 {
+            return Input::Failed;
+        }
+        let more = io::count(got, &buf[n..]);
+        if more == 0 {
+            return Input::Bytes(n);
+        }
+        n += more;
+    }
+    Input::Bytes(n)
+}

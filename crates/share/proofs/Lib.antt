@@ -1,0 +1,6 @@
+pub mod Laws
+pub mod Zeros
+pub mod Cases
+pub mod Proportion
+pub mod Ranks
+pub mod Keys
