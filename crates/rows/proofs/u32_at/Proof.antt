@@ -1,0 +1,16 @@
+use borrow.Author.Needs.{needs}
+use Rattle.rows.specs.Bytes.{u32At}
+use Rattle.rows.proofs.u32_at.Statement.{statement}
+use Rattle.rows.proofs.u32_at.Tie as tie
+
+returns : tie.Need-returns
+unfolding u32At
+returns c = search needs
+
+pub u32-at-spec : {M : Type 1} → statement M
+u32-at-spec =
+    tie.close
+    (tie.spec (λ c. search needs) (λ c κs. search needs) (λ c. search needs) (λ c. search needs)
+    (λ c κs. search needs) (λ c. search needs) (λ c. search needs) (λ c. search needs) (λ c. search needs)
+    (λ c κs. search needs) (λ c. search needs) (λ c. search needs) (λ c. search needs) (λ c. search needs)
+    (λ c κs. search needs) (λ c. search needs) (λ c. search needs) returns)

@@ -1,0 +1,69 @@
+-- Document 01, 'The hour sheet' and refusals 3 to 6: what each row says, and what makes it good. Assumes nothing.
+use Prim.Native.Nat.{ℕ, _/_, _%_}
+use mathlib.Core.Bool.{Bool, _&&_, _||_, not}
+use lib.Dec.{leb, eqb}
+use Rattle.rows.specs.Limits.{mostEnergy, mostPrice, mostFactor}
+use Rattle.rows.specs.declared.Words.{Words}
+use Rattle.rows.specs.declared.Agent.{Agent}
+use Rattle.rows.specs.declared.Boundary.{Boundary}
+use Rattle.rows.specs.declared.Plant.{Plant}
+use Rattle.rows.specs.declared.Contract.{Contract}
+
+-- two 16-bit numbers stand in one of 32 bits
+abbrev pub low : ℕ → ℕ
+low x = x % 65536
+
+abbrev pub high : ℕ → ℕ
+high x = x / 65536
+
+-- ---- what a row says
+abbrev pub agentOf : Words → Agent
+agentOf w = record { kind = w .first }
+
+abbrev pub boundaryOf : Words → Boundary
+boundaryOf w = record { agent = low (w .first); factor = high (w .first); import = w .third; export = w .fourth }
+
+abbrev pub plantOf : Words → Plant
+plantOf w = record { agent = low (w .first); inflexible = high (w .first); price = w .third; availability = w .fourth }
+
+abbrev pub contractOf : Words → Contract
+contractOf w =
+    record { seller = low (w .first); buyer = high (w .first); kind = w .second; price = w .third; quantity = w .fourth }
+
+-- ---- unused bytes are 0: bytes 4 to 15 of an agent, 4 to 7 of a boundary and of a plant
+abbrev pub agentBlank : Words → Bool
+agentBlank w = eqb (w .second) 0 && eqb (w .third) 0 && eqb (w .fourth) 0
+
+abbrev pub rowBlank : Words → Bool
+rowBlank w = eqb (w .second) 0
+
+-- ---- the kinds of agent: 1 retailer, 2 generator
+abbrev pub isRetailer : ℕ → Bool
+isRetailer kind = eqb kind 1
+
+abbrev pub isGenerator : ℕ → Bool
+isGenerator kind = eqb kind 2
+
+abbrev pub isAgent : ℕ → Bool
+isAgent kind = isRetailer kind || isGenerator kind
+
+-- ---- what makes a row good. A row that names an agent is judged with that agent's kind, 0 where there is no such agent
+abbrev pub agentGood : Agent → Bool
+agentGood a = isAgent (a .kind)
+
+-- the agent is there, factor and readings are within their limits, and a generator has no factor
+abbrev pub boundaryGood : (kind : ℕ) → Boundary → Bool
+boundaryGood kind b =
+    isAgent kind && leb (b .factor) mostFactor && leb (b .import) mostEnergy && leb (b .export) mostEnergy
+    && (not (isGenerator kind) || eqb (b .factor) 0)
+
+-- the agent is a generator, the flag is 0 or 1, price and availability are within their limits
+abbrev pub plantGood : (kind : ℕ) → Plant → Bool
+plantGood kind p =
+    isGenerator kind && leb (p .inflexible) 1 && leb (p .price) mostPrice && leb (p .availability) mostEnergy
+
+-- the seller is a generator, the buyer a retailer; kind, price and quantity are within their ranges
+abbrev pub contractGood : (seller buyer : ℕ) → Contract → Bool
+contractGood seller buyer c =
+    isGenerator seller && isRetailer buyer && leb 1 (c .kind) && leb (c .kind) 3 && leb (c .price) mostPrice
+    && leb (c .quantity) mostEnergy

@@ -1,0 +1,208 @@
+// The four kinds of row: the limits that bound them, what a row says, and what makes it good.
+ghost use mathlib.Core.Path.{_≡_};
+ghost use Prim.Native.Nat.{_+_, _≤_, _<_};
+ghost use lib.ListN.{length};
+ghost use Rattle.rows.specs.Bytes.{u32At, wordsAt};
+ghost use Rattle.rows.specs.Rows.{agentOf, boundaryOf, plantOf, contractOf, agentBlank, rowBlank, agentGood, boundaryGood, plantGood, contractGood};
+
+// A row's sixteen bytes, as four 32-bit numbers.
+pub struct Words {
+    pub first: u32,
+    pub second: u32,
+    pub third: u32,
+    pub fourth: u32,
+}
+
+pub struct Agent {
+    pub kind: u32,
+}
+
+impl Agent {
+    pub const MOST: usize = 64;
+
+    pub const RETAILER: u32 = 1;
+
+    pub const GENERATOR: u32 = 2;
+}
+
+pub struct Boundary {
+    pub agent: u32,
+    pub factor: u32,
+    pub import: u32,
+    pub export: u32,
+}
+
+impl Boundary {
+    pub const MOST: usize = 256;
+
+    pub const FACTOR: u32 = 5000;
+
+    pub const READING: u32 = 4000000;
+}
+
+pub struct Plant {
+    pub agent: u32,
+    pub inflexible: u32,
+    pub price: u32,
+    pub availability: u32,
+}
+
+impl Plant {
+    pub const MOST: usize = 64;
+
+    // The highest flag: 1 says that the plant is inflexible.
+    pub const INFLEXIBLE: u32 = 1;
+
+    pub const PRICE: u32 = 1000000;
+
+    pub const AVAILABILITY: u32 = 4000000;
+}
+
+pub struct Contract {
+    pub seller: u32,
+    pub buyer: u32,
+    pub kind: u32,
+    pub price: u32,
+    pub quantity: u32,
+}
+
+impl Contract {
+    pub const MOST: usize = 256;
+
+    pub const FIXED: u32 = 1;
+
+    pub const CONDITIONAL: u32 = 2;
+
+    pub const DEMANDED: u32 = 3;
+
+    pub const PRICE: u32 = 1000000;
+
+    pub const QUANTITY: u32 = 4000000;
+}
+
+fn wide(x: u8) -> u32
+    ensures { λ r. ⌜ (r ≡ x) × (r < 256) ⌝ }
+{
+    x as u32
+}
+
+// The 32-bit number at byte k, little-endian.
+fn u32_at(s: &[u8], k: usize) -> u32
+    requires { ⌜ k + 4 ≤ length (now s) ⌝ }
+    ensures { λ r. ⌜ r ≡ u32At (now (s .entry)) k ⌝ }
+{
+    wide(s[k]) + 256 * wide(s[k + 1]) + 65536 * wide(s[k + 2]) + 16777216 * wide(s[k + 3])
+}
+
+// Row r of the bytes; zeros past the last whole row.
+pub fn row_at(s: &[u8], r: usize) -> Words
+    ensures { λ w. ⌜ w ≡ wordsAt (now (s .entry)) r ⌝ }
+{
+    if r < s.len() / 16 {
+        let k = 16 * r;
+        Words {
+            first: u32_at(s, k),
+            second: u32_at(s, k + 4),
+            third: u32_at(s, k + 8),
+            fourth: u32_at(s, k + 12),
+        }
+    } else {
+        Words {
+            first: 0,
+            second: 0,
+            third: 0,
+            fourth: 0,
+        }
+    }
+}
+
+// What a row says.
+pub fn agent_of(w: Words) -> Agent
+    ensures { λ r. ⌜ r ≡ agentOf w ⌝ }
+{
+    Agent { kind: w.first }
+}
+
+pub fn boundary_of(w: Words) -> Boundary
+    ensures { λ r. ⌜ r ≡ boundaryOf w ⌝ }
+{
+    Boundary {
+        agent: w.first % 65536,
+        factor: w.first / 65536,
+        import: w.third,
+        export: w.fourth,
+    }
+}
+
+pub fn plant_of(w: Words) -> Plant
+    ensures { λ r. ⌜ r ≡ plantOf w ⌝ }
+{
+    Plant {
+        agent: w.first % 65536,
+        inflexible: w.first / 65536,
+        price: w.third,
+        availability: w.fourth,
+    }
+}
+
+pub fn contract_of(w: Words) -> Contract
+    ensures { λ r. ⌜ r ≡ contractOf w ⌝ }
+{
+    Contract {
+        seller: w.first % 65536,
+        buyer: w.first / 65536,
+        kind: w.second,
+        price: w.third,
+        quantity: w.fourth,
+    }
+}
+
+// The unused bytes of an agent's row are 0; those of a boundary's and of a plant's.
+pub fn agent_blank(w: Words) -> bool
+    ensures { λ r. ⌜ r ≡ agentBlank w ⌝ }
+{
+    (w.second == 0) & (w.third == 0) & (w.fourth == 0)
+}
+
+pub fn row_blank(w: Words) -> bool
+    ensures { λ r. ⌜ r ≡ rowBlank w ⌝ }
+{
+    w.second == 0
+}
+
+// What makes a row good: one unbranched test each. A row that names an agent is judged with that agent's kind, 0 for none.
+pub fn agent_good(a: Agent) -> bool
+    ensures { λ r. ⌜ r ≡ agentGood a ⌝ }
+{
+    (a.kind == Agent::RETAILER) | (a.kind == Agent::GENERATOR)
+}
+
+pub fn boundary_good(kind: u32, b: Boundary) -> bool
+    ensures { λ r. ⌜ r ≡ boundaryGood kind b ⌝ }
+{
+    ((kind == Agent::RETAILER) | (kind == Agent::GENERATOR))
+        & (b.factor <= Boundary::FACTOR)
+        & (b.import <= Boundary::READING)
+        & (b.export <= Boundary::READING)
+        & ((kind != Agent::GENERATOR) | (b.factor == 0))
+}
+
+pub fn plant_good(kind: u32, p: Plant) -> bool
+    ensures { λ r. ⌜ r ≡ plantGood kind p ⌝ }
+{
+    (kind == Agent::GENERATOR)
+        & (p.inflexible <= Plant::INFLEXIBLE)
+        & (p.price <= Plant::PRICE)
+        & (p.availability <= Plant::AVAILABILITY)
+}
+
+pub fn contract_good(seller: u32, buyer: u32, c: Contract) -> bool
+    ensures { λ r. ⌜ r ≡ contractGood seller buyer c ⌝ }
+{
+    (seller == Agent::GENERATOR)
+        & (buyer == Agent::RETAILER)
+        & (Contract::FIXED <= c.kind)
+        & (c.kind <= Contract::DEMANDED)
+        & (c.price <= Contract::PRICE)
+        & (c.quantity <= Contract::QUANTITY)
+}

@@ -1,0 +1,13 @@
+use Rattle.sheet.specs.Reading.{layoutGood}
+use borrow.Author.Needs.{needs}
+use Rattle.sheet.proofs.layout_good.Statement.{statement}
+use Rattle.sheet.proofs.layout_good.Tie as tie
+
+returns : tie.Need-returns
+unfolding layoutGood
+returns c = cc
+
+pub layout-good-spec : {M : Type 1} → statement M
+layout-good-spec =
+    tie.close
+    (tie.spec (λ c κs. search needs) (λ c κs. search needs) (λ c κs. search needs) returns)

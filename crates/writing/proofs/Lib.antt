@@ -1,0 +1,7 @@
+pub mod Rows
+pub mod Good
+pub mod Same
+pub mod There
+pub mod Back
+pub mod RoundTrip
+pub mod Put

@@ -1,0 +1,41 @@
+use Rattle.writing.specs.Words.{agentWords, boundaryWords, plantWords, contractWords, rowOf}
+use borrow.Author.Tests.{lt-ltb, le-ltb}
+use mathlib.Core.Path.{ap, _∙_}
+use borrow.Author.Needs.{needs}
+use Rattle.writing.proofs.place.row_words.Statement.{statement}
+use Rattle.writing.proofs.place.row_words.Tie as tie
+
+trailer-words-requires : tie.Need-trailer-words-requires
+trailer-words-requires c κs = rw (c .counts-in .ensures) ((c .before .before .before .before .before .before .before .before .before) .pre)
+
+returns : tie.Need-returns
+unfolding rowOf
+returns c = rw (lt-ltb _ _ ((c .before .before) .if1 .taken)) (c .agent-words .ensures ∙ ap agentWords ((c .before) .agent-in .ensures))
+
+returns-2 : tie.Need-returns-2
+unfolding rowOf
+returns-2 c = rw (le-ltb _ _ ((c .before .before .before) .if1 .left), lt-ltb _ _ ((c .before .before) .if2 .taken))
+    (c .boundary-words .ensures ∙ ap boundaryWords ((c .before) .boundary-in .ensures))
+
+returns-3 : tie.Need-returns-3
+unfolding rowOf
+returns-3 c = rw (le-ltb _ _ ((c .before .before .before .before) .if1 .left), le-ltb _ _ ((c .before .before .before) .if2 .left), lt-ltb _ _ ((c .before .before) .if3 .taken))
+    (c .plant-words .ensures ∙ ap plantWords ((c .before) .plant-in .ensures))
+
+returns-4 : tie.Need-returns-4
+unfolding rowOf
+returns-4 c = rw (le-ltb _ _ ((c .before .before .before .before .before) .if1 .left), le-ltb _ _ ((c .before .before .before .before) .if2 .left), le-ltb _ _ ((c .before .before .before) .if3 .left), lt-ltb _ _ ((c .before .before) .if4 .taken))
+    (c .contract-words .ensures ∙ ap contractWords ((c .before) .contract-in .ensures))
+
+returns-5 : tie.Need-returns-5
+unfolding rowOf
+returns-5 c = let e = rw ((c .before) .counts-in .ensures) at (c .trailer-words .ensures) in
+    rw (le-ltb _ _ ((c .before .before .before .before .before) .if1 .left), le-ltb _ _ ((c .before .before .before .before) .if2 .left), le-ltb _ _ ((c .before .before .before) .if3 .left), le-ltb _ _ ((c .before .before) .if4 .left)) e
+
+pub row-words-spec : {M : Type 1} → statement M
+row-words-spec =
+    tie.close
+    (tie.spec (λ c. search needs) (λ c. search needs) (λ c. search needs) (λ c κs. search needs)
+    (λ c κs. search needs) (λ c κs. search needs) (λ c κs. search needs) (λ c κs. search needs)
+    (λ c κs. search needs) (λ c κs. search needs) (λ c κs. search needs) (λ c κs. search needs)
+    trailer-words-requires returns returns-2 returns-3 returns-4 returns-5)
