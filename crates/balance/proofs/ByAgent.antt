@@ -1,0 +1,114 @@
+-- What the code has read, agent by agent, is what the definitions say. Assumes nothing.
+use Prim.Native.Nat.{ℕ, _+_, _-_, _≤_}
+use native.Mathlib.Omega.{arith}
+use mathlib.Core.Bool.{_&&_, not}
+use mathlib.Core.List.{List}
+use mathlib.Core.Path.{_≡_, refl, ap, ap₂, _∙_, sym}
+use lib.Dec.{ltb}
+use lib.ListN.{length, take}
+use Rattle.sums.specs.Sums.{sum, first, pick}
+use Rattle.sums.specs.Lists.{at, Filled}
+use Rattle.sums.proofs.Fill.{filled-none, filled-count, filled-by, filled-front, filled-unique}
+use Rattle.refusals.specs.Refusals.{cells}
+use Rattle.refusals.specs.declared.Refusal.{Refusal}
+use Rattle.refusals.specs.declared.Verdict.{Verdict}
+use Rattle.share.specs.Share.{shareOf, Shared}
+use Rattle.share.proofs.Laws.{share-fine}
+use Rattle.rows.specs.Limits.{mostAgents}
+use Rattle.sums.proofs.Sums.{sum-eq}
+use Rattle.sums.proofs.First.{first-eq}
+use Rattle.rows.specs.Rows.{isRetailer}
+use Rattle.hour.specs.Sheet.{Sheet, agents, retails}
+use Rattle.hour.specs.Balance.{imported, exported, consumption, consumed, consumptions, ownImport, entering, leaving, losses, lossShare, commercial, hourDemand}
+use Rattle.hour.specs.Answer.{firstOver, balanceVerdict}
+use Rattle.hour.proofs.Demand.{weights-long}
+use Rattle.balance.specs.Balances.{zeros, nothing, Balances, Read}
+use Rattle.balance.specs.declared.Balance.{Balance}
+
+module _ (h : Sheet) (n : ℕ) (kinds imports exports used : List ℕ) (r : Read h n kinds imports exports used) where
+  pub over-is : first n (λ a. isRetailer (at kinds a) && ltb (at imports a) (at exports a)) ≡ firstOver h
+  unfolding firstOver retails
+  over-is =
+      rw (sym (r .count))
+      (first-eq (agents h) _ _
+      (λ a l. ap (λ (k : ℕ). isRetailer k && ltb (at imports a) (at exports a)) (r .kind a l)
+      ∙ ap₂ (λ (x y : ℕ). isRetailer (at (h .kinds) a) && ltb x y) (r .took a l) (r .gave a l)))
+
+  pub entering-is : sum n (at exports) ≡ entering h
+  unfolding entering
+  entering-is = rw (sym (r .count)) (sum-eq (agents h) _ _ (r .gave))
+
+  pub leaving-is : sum n (at imports) ≡ leaving h
+  unfolding leaving
+  leaving-is = rw (sym (r .count)) (sum-eq (agents h) _ _ (r .took))
+
+  pub consumed-is : sum n (at used) ≡ consumed h
+  unfolding consumed
+  consumed-is = rw (sym (r .count)) (sum-eq (agents h) _ _ (r .used))
+
+-- ---- one agent
+module _ (h : Sheet) (a k x y : ℕ) (p : k ≡ at (h .kinds) a) (q : x ≡ imported h a) where
+  pub used-is : y ≡ exported h a → pick (isRetailer k) (x - y) ≡ consumption h a
+  unfolding consumption retails
+  used-is r = rw (p, q, r)
+
+  pub own-is : pick (not (isRetailer k)) x ≡ ownImport h a
+  unfolding ownImport retails
+  own-is = rw (p, q)
+
+pub commercial-is : (h : Sheet) (a : ℕ) → consumption h a + lossShare h a ≡ commercial h a
+unfolding commercial
+commercial-is h a = refl
+
+-- a sum of two numbers fits by their other names
+pub fits-by : (x y v w : ℕ) → x ≡ v → y ≡ w → v + w ≤ 4294967295 → x + y ≤ 4294967295
+fits-by x y v w p q h = omega arith
+
+-- ---- all agents
+module _ (h : Sheet) where
+  module _ (n : ℕ) (e : agents h ≡ n) where
+    -- the shares of an amount that is the losses, over weights that are the consumptions
+    pub shares-are : (amount : ℕ) (weights before : List ℕ) (r : Verdict) (after : List ℕ) → amount ≡ losses h → weights ≡ consumptions h
+        → n ≤ mostAgents → length before ≡ mostAgents → Shared amount weights before r after → Filled 0 before after n (lossShare h)
+    unfolding lossShare
+    shares-are amount weights before r after p q few long s =
+        let m : length weights ≡ n = ap length q ∙ weights-long h ∙ e in
+        filled-count 0 _ _ _ _ _ m
+        (filled-by 0 _ _ _ _ _ (λ a l. ap₂ (λ (x : ℕ) (w : List ℕ). shareOf x w a) p q) (share-fine (omega arith) (omega arith) s .filled))
+
+    pub weights-are : (l : List ℕ) → n ≤ mostAgents → Filled 0 zeros l n (consumption h) → take n l ≡ consumptions h
+    unfolding consumptions
+    weights-are l few f = rw e (filled-front 0 zeros l n (consumption h) few f)
+
+    pub demand-is : (l : List ℕ) → Filled 0 zeros l n (λ a. commercial h a + ownImport h a) → sum n (at l) ≡ hourDemand h
+    unfolding hourDemand
+    demand-is l f = rw e (sum-eq n _ _ (f .done))
+
+  -- a refused balance
+  pub nothing-is : (r : Refusal) → balanceVerdict h ≡ Verdict.Refused r → Balances h (nothing (balanceVerdict h))
+  nothing-is r e =
+      let none : (k : ℕ) → 0 ≡ cells (balanceVerdict h) k = λ k. rw e in
+      record {
+        answer = refl;
+        kinds = filled-count 0 _ _ 0 _ _ (none _) (filled-none 0 _ _);
+        shares = filled-count 0 _ _ 0 _ _ (none _) (filled-none 0 _ _);
+        commercial = filled-count 0 _ _ 0 _ _ (none _) (filled-none 0 _ _);
+        imports = filled-count 0 _ _ 0 _ _ (none _) (filled-none 0 _ _);
+        losses = none _;
+        demand = none _;
+      }
+
+-- ---- two outcomes that meet the promise are one
+pub one-balance : {h : Sheet} {q r : Balance} → Balances h q → Balances h r → q ≡ r
+one-balance {h} {q} {r} x y =
+    same q r (x .answer ∙ sym (y .answer)) (filled-unique 0 _ _ _ _ _ (x .kinds) (y .kinds)) (filled-unique 0 _ _ _ _ _ (x .shares) (y .shares))
+    (filled-unique 0 _ _ _ _ _ (x .commercial) (y .commercial)) (filled-unique 0 _ _ _ _ _ (x .imports) (y .imports))
+    (x .losses ∙ sym (y .losses)) (x .demand ∙ sym (y .demand))
+  where
+    all : Verdict → (kinds shares commercial imports : List ℕ) (losses demand : ℕ) → Balance
+    all v k s c i l d = record { verdict = v; kinds = k; shares = s; commercial = c; imports = i; losses = l; demand = d }
+
+    same : (q r : Balance) → q .verdict ≡ r .verdict → q .kinds ≡ r .kinds → q .shares ≡ r .shares → q .commercial ≡ r .commercial
+        → q .imports ≡ r .imports → q .losses ≡ r .losses → q .demand ≡ r .demand
+        → all (q .verdict) (q .kinds) (q .shares) (q .commercial) (q .imports) (q .losses) (q .demand) ≡ all (r .verdict) (r .kinds) (r .shares) (r .commercial) (r .imports) (r .losses) (r .demand)
+    same q r v k s c i l d = rw (v, k, s, c, i, l, d)

@@ -1,0 +1,30 @@
+use borrow.Author.Needs.{needs}
+use native.Mathlib.Omega.{arith}
+use Prim.Native.Nat.{_≤_, _*_}
+use native.Mathlib.Nat.{mul-le-mul}
+use Rattle.hour.specs.Balance.{referred}
+use Rattle.balance.proofs.refer.Statement.{statement}
+use Rattle.balance.proofs.refer.Tie as tie
+
+-- a reading within its limit, times a factor within its limit
+small : (c : tie.After-wide2) → c .before .wide .result * c .wide2 .result ≤ 4000000 * 15000
+small c = mul-le-mul {n₂ = 4000000} {m₂ = 15000} (omega arith) (omega arith)
+
+mul-result : tie.Need-mul-result
+mul-result c = omega (arith, small c)
+
+add-result : tie.Need-add-result
+add-result c = omega (arith, small c)
+
+cast-result : tie.Need-cast-result
+cast-result c = omega (arith, small c)
+
+returns : tie.Need-returns
+unfolding referred
+returns c = simp (c .before .wide .ensures, c .wide2 .ensures)
+
+pub refer-spec : {M : Type 1} → statement M
+refer-spec =
+    tie.close
+    (tie.spec (λ c κs. search needs) (λ c. search needs) (λ c κs. search needs) mul-result add-result cast-result
+    returns)

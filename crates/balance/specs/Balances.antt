@@ -1,0 +1,46 @@
+-- Document 01, 'From readings to commercial demand': what weighing the readings of an accepted sheet answers. Assumes nothing.
+use Prim.Native.Nat.{ℕ, _<_}
+use mathlib.Core.List.{List}
+use mathlib.Core.Path.{_≡_}
+use lib.ListN.{replicate}
+use Rattle.rows.specs.Limits.{mostAgents}
+use Rattle.sums.specs.Lists.{at, Filled}
+use Rattle.refusals.specs.Refusals.{cells}
+use Rattle.refusals.specs.declared.Verdict.{Verdict}
+use Rattle.hour.specs.Sheet.{Sheet, agents}
+use Rattle.hour.specs.Balance.{imported, exported, consumption, ownImport, losses, lossShare, commercial, hourDemand}
+use Rattle.hour.specs.Answer.{balanceVerdict}
+use Rattle.balance.specs.declared.Balance.{Balance}
+
+-- an array with a cell an agent, before anything is written
+abbrev pub zeros : List ℕ
+zeros = replicate mostAgents 0
+
+-- a refused balance
+abbrev pub nothing : Verdict → Balance
+nothing v =
+    record { verdict = v; kinds = zeros; shares = zeros; commercial = zeros; imports = zeros; losses = 0; demand = 0 }
+
+-- refusals 7 to 9; where it is fine the agents' kinds, loss shares, commercial demands and own imports stand in the first cells, with
+-- the losses and the hour's demand; where it is refused all is 0
+pub record Balances (h : Sheet) (r : Balance) : Type 0 where
+  pub answer : r .verdict ≡ balanceVerdict h
+  pub kinds : Filled 0 zeros (r .kinds) (cells (balanceVerdict h) (agents h)) (at (h .kinds))
+  pub shares : Filled 0 zeros (r .shares) (cells (balanceVerdict h) (agents h)) (lossShare h)
+  pub commercial : Filled 0 zeros (r .commercial) (cells (balanceVerdict h) (agents h)) (commercial h)
+  pub imports : Filled 0 zeros (r .imports) (cells (balanceVerdict h) (agents h)) (ownImport h)
+  pub losses : r .losses ≡ cells (balanceVerdict h) (losses h)
+  pub demand : r .demand ≡ cells (balanceVerdict h) (hourDemand h)
+
+-- what each agent took and delivered, all its rows together
+pub record Metered (h : Sheet) (imports exports : List ℕ) : Type 0 where
+  pub took : (a : ℕ) → a < mostAgents → at imports a ≡ imported h a
+  pub gave : (a : ℕ) → a < mostAgents → at exports a ≡ exported h a
+
+-- the same of n agents, with their kinds and consumptions
+pub record Read (h : Sheet) (n : ℕ) (kinds imports exports consumptions : List ℕ) : Type 0 where
+  pub count : agents h ≡ n
+  pub kind : (a : ℕ) → a < agents h → at kinds a ≡ at (h .kinds) a
+  pub took : (a : ℕ) → a < agents h → at imports a ≡ imported h a
+  pub gave : (a : ℕ) → a < agents h → at exports a ≡ exported h a
+  pub used : (a : ℕ) → a < agents h → at consumptions a ≡ consumption h a

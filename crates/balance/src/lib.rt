@@ -1,0 +1,254 @@
+// From readings to commercial demand: what each agent took and delivered, what was lost on the way, and who carries it.
+use refusals::Refusal;
+use refusals::Verdict;
+use rows::Agent;
+use sheet::Counts;
+ghost use mathlib.Core.Path.{_≡_};
+ghost use mathlib.Core.Bool.{_&&_, _||_, not};
+ghost use Prim.Native.Nat.{ℕ, _+_, _-_, _≤_, _<_};
+ghost use lib.Dec.{ltb, eqb};
+ghost use Rattle.sums.specs.Sums.{sum, pick, first};
+ghost use Rattle.sums.specs.Lists.{at, Filled};
+ghost use Rattle.refusals.specs.Refusals.{cells};
+ghost use Rattle.rows.specs.Limits.{mostAgents, mostEnergy, mostFactor};
+ghost use Rattle.rows.specs.Bytes.{wordsAt};
+ghost use Rattle.rows.specs.Rows.{agentOf, isRetailer};
+ghost use Rattle.sheet.specs.Reading.{readOf};
+ghost use Rattle.sheet.specs.declared.Reading.{Reading};
+ghost use Rattle.columns.specs.Columns.{columnsOf};
+ghost use Rattle.hour.specs.Sheet.{Sheet, agents};
+ghost use Rattle.hour.specs.Balance.{referred};
+ghost use Rattle.hour.specs.Answer.{balanceVerdict};
+ghost use Rattle.balance.specs.Balances.{zeros, nothing, Balances, Metered, Read};
+
+// A sheet's balance, agent by agent. A refused one is all zeros.
+pub struct Balance {
+    pub verdict: Verdict,
+    pub kinds: [u32; 64],
+    pub shares: [u32; 64],
+    pub commercial: [u32; 64],
+    pub imports: [u32; 64],
+    pub losses: u32,
+    pub demand: u32,
+}
+
+// What each agent took and delivered, referred to the national system.
+struct Readings {
+    imports: [u32; 64],
+    exports: [u32; 64],
+}
+
+// One reading, referred.
+fn refer(reading: u32, factor: u32) -> u32
+    requires { ⌜ (reading ≤ mostEnergy) × (factor ≤ mostFactor) ⌝ }
+    ensures { λ r. ⌜ r ≡ referred reading factor ⌝ }
+{
+    ((sums::wide(reading) * sums::wide(10000 + factor) + 5000) / 10000) as u32
+}
+
+// The kinds of the first n agents.
+fn kinds_of(s: &[u8], n: usize) -> [u32; 64]
+    requires { ⌜ n ≤ mostAgents ⌝ }
+    ensures { λ r. ⌜ Filled 0 zeros r n (λ a. agentOf (wordsAt (now (s .entry)) a) .kind) ⌝ }
+{
+    let mut out = [0u32; 64];
+    let mut a = 0;
+    while a < n {
+        out[a] = rows::agent_of(rows::row_at(s, a)).kind;
+        a += 1;
+    }
+    out
+}
+
+// One pass over the boundary rows, with running sums by agent: each import and each export is referred by itself.
+fn meter(s: &[u8], c: Counts) -> Readings
+    requires { ⌜ readOf (now s) ≡ Reading.Accepted c ⌝ }
+    ensures { λ r. ⌜ Metered (columnsOf (now (s .entry)) c) (r .imports) (r .exports) ⌝ }
+{
+    let start = c.agents;
+    let n = c.boundaries;
+    let mut imports = [0u32; 64];
+    let mut exports = [0u32; 64];
+    let mut j = 0;
+    while j < n {
+        let b = rows::boundary_of(rows::row_at(s, start + j));
+        let a = b.agent as usize;
+        imports[a] = imports[a] + refer(b.import, b.factor);
+        exports[a] = exports[a] + refer(b.export, b.factor);
+        j += 1;
+    }
+    Readings { imports, exports }
+}
+
+// v of a retailer, 0 of a generator.
+fn of_retailer(kind: u32, v: u32) -> u32
+    ensures { λ r. ⌜ r ≡ pick (isRetailer kind) v ⌝ }
+{
+    if kind == Agent::RETAILER { v } else { 0 }
+}
+
+// v of a generator, 0 of a retailer.
+fn of_generator(kind: u32, v: u32) -> u32
+    ensures { λ r. ⌜ r ≡ pick (not (isRetailer kind)) v ⌝ }
+{
+    if kind == Agent::RETAILER { 0 } else { v }
+}
+
+// A retailer's imports less its exports; nothing of a generator.
+fn consumptions(kinds: &[u32; 64], imports: &[u32; 64], exports: &[u32; 64], n: usize) -> [u32; 64]
+    requires { ⌜ n ≤ mostAgents ⌝ }
+    ensures { λ r. ⌜ Filled 0 zeros r n (λ a. pick (isRetailer (at (now (kinds .entry)) a)) (at (now (imports .entry)) a - at (now (exports .entry)) a)) ⌝ }
+{
+    let mut out = [0u32; 64];
+    let mut a = 0;
+    while a < n {
+        out[a] = of_retailer(kinds[a], sums::less(imports[a], exports[a]));
+        a += 1;
+    }
+    out
+}
+
+// A generator's imports; nothing of a retailer.
+fn own_imports(kinds: &[u32; 64], imports: &[u32; 64], n: usize) -> [u32; 64]
+    requires { ⌜ n ≤ mostAgents ⌝ }
+    ensures { λ r. ⌜ Filled 0 zeros r n (λ a. pick (not (isRetailer (at (now (kinds .entry)) a))) (at (now (imports .entry)) a)) ⌝ }
+{
+    let mut out = [0u32; 64];
+    let mut a = 0;
+    while a < n {
+        out[a] = of_generator(kinds[a], imports[a]);
+        a += 1;
+    }
+    out
+}
+
+// Two columns added.
+fn added(xs: &[u32; 64], ys: &[u32; 64], n: usize) -> [u32; 64]
+    requires { ⌜ n ≤ mostAgents ⌝ }
+    requires { ⌜ ((a : ℕ) → a < n → at (now xs) a + at (now ys) a ≤ 4294967295) ⌝ }
+    ensures { λ r. ⌜ Filled 0 zeros r n (λ a. at (now (xs .entry)) a + at (now (ys .entry)) a) ⌝ }
+{
+    let mut out = [0u32; 64];
+    let mut a = 0;
+    while a < n {
+        out[a] = xs[a] + ys[a];
+        a += 1;
+    }
+    out
+}
+
+// The sum of a column's first n cells.
+fn total(values: &[u32; 64], n: usize) -> u32
+    requires { ⌜ (n ≤ mostAgents) × (sum n (at (now values)) ≤ 4294967295) ⌝ }
+    ensures { λ r. ⌜ r ≡ sum n (at (now (values .entry))) ⌝ }
+{
+    let mut sum = 0;
+    let mut a = 0;
+    while a < n {
+        sum += values[a];
+        a += 1;
+    }
+    sum
+}
+
+// A retailer that delivers more than it takes.
+fn is_over(kind: u32, import: u32, export: u32) -> bool
+    ensures { λ r. ⌜ r ≡ (isRetailer kind && ltb import export) ⌝ }
+{
+    (kind == Agent::RETAILER) & (import < export)
+}
+
+// The lowest such agent, or n.
+fn first_over(kinds: &[u32; 64], imports: &[u32; 64], exports: &[u32; 64], n: usize) -> usize
+    requires { ⌜ n ≤ mostAgents ⌝ }
+    ensures { λ r. ⌜ r ≡ first n (λ a. isRetailer (at (now (kinds .entry)) a) && ltb (at (now (imports .entry)) a) (at (now (exports .entry)) a)) ⌝ }
+{
+    let mut a = 0;
+    while a < n {
+        if is_over(kinds[a], imports[a], exports[a]) {
+            return a;
+        }
+        a += 1;
+    }
+    n
+}
+
+// Nothing is lost, or there is somebody to carry it.
+fn carried(losses: u32, consumed: u32) -> bool
+    ensures { λ r. ⌜ r ≡ (eqb losses 0 || ltb 0 consumed) ⌝ }
+{
+    (losses == 0) | (0 < consumed)
+}
+
+// Refusals 7 to 9, in this order.
+fn judge(
+    kinds: &[u32; 64],
+    imports: &[u32; 64],
+    exports: &[u32; 64],
+    consumption: &[u32; 64],
+    n: usize,
+) -> Verdict
+    requires { ⌜ (n ≤ mostAgents) × (sum n (at (now imports)) ≤ 4294967295) × (sum n (at (now exports)) ≤ 4294967295) × (sum n (at (now consumption)) ≤ 4294967295) ⌝ }
+    ensures { λ r. ⌜ ((h : Sheet) → Read h n (now (kinds .entry)) (now (imports .entry)) (now (exports .entry)) (now (consumption .entry)) → r ≡ balanceVerdict h) ⌝ }
+{
+    let over = first_over(kinds, imports, exports, n);
+    if over < n {
+        return refusals::refuse(Refusal::EXPORTS, over as u32);
+    }
+    let entering = total(exports, n);
+    let leaving = total(imports, n);
+    if entering < leaving {
+        return refusals::refuse(Refusal::GAIN, 0);
+    }
+    if carried(entering - leaving, total(consumption, n)) {
+        return Verdict::Fine;
+    }
+    refusals::refuse(Refusal::UNSHARED, 0)
+}
+
+fn turned_away(verdict: Verdict) -> Balance
+    ensures { λ r. ⌜ r ≡ nothing verdict ⌝ }
+{
+    Balance {
+        verdict,
+        kinds: [0u32; 64],
+        shares: [0u32; 64],
+        commercial: [0u32; 64],
+        imports: [0u32; 64],
+        losses: 0,
+        demand: 0,
+    }
+}
+
+// Weighs what was taken against what was delivered, on a sheet that reading accepts with these counts.
+pub fn weigh(s: &[u8], c: Counts) -> Balance
+    requires { ⌜ readOf (now s) ≡ Reading.Accepted c ⌝ }
+    ensures { λ r. ⌜ Balances (columnsOf (now (s .entry)) c) r ⌝ }
+{
+    let n = c.agents;
+    let kinds = kinds_of(s, n);
+    let readings = meter(s, c);
+    let imports = readings.imports;
+    let exports = readings.exports;
+    let consumption = consumptions(&kinds, &imports, &exports, n);
+    let verdict = judge(&kinds, &imports, &exports, &consumption, n);
+    let Verdict::Fine = verdict else {
+        return turned_away(verdict);
+    };
+    let losses = total(&exports, n) - total(&imports, n);
+    let mut shares = [0u32; 64];
+    share::share(losses, &consumption[..n], &mut shares);
+    let commercial = added(&consumption, &shares, n);
+    let own = own_imports(&kinds, &imports, n);
+    let needed = added(&commercial, &own, n);
+    let demand = total(&needed, n);
+    Balance {
+        verdict,
+        kinds,
+        shares,
+        commercial,
+        imports: own,
+        losses,
+        demand,
+    }
+}

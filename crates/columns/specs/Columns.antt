@@ -1,0 +1,28 @@
+-- Document 01, 'The hour sheet': the bytes of an accepted sheet, by the columns of each section. Assumes nothing.
+use Prim.Native.Nat.{ℕ}
+use mathlib.Core.List.{List}
+use Rattle.sums.specs.Lists.{listTo}
+use Rattle.sheet.specs.Asking.{agentAt, boundaryAt, plantAt, contractAt}
+use Rattle.sheet.specs.declared.Counts.{Counts}
+use Rattle.hour.specs.Sheet.{Sheet}
+
+unfoldable pub columnsOf : List ℕ → Counts → Sheet
+columnsOf s c =
+    record {
+      kinds = listTo (λ a. agentAt s c a .kind) (c .agents);
+      owners = listTo (λ j. boundaryAt s c j .agent) (c .boundaries);
+      factors = listTo (λ j. boundaryAt s c j .factor) (c .boundaries);
+      imports = listTo (λ j. boundaryAt s c j .import) (c .boundaries);
+      exports = listTo (λ j. boundaryAt s c j .export) (c .boundaries);
+      holders = listTo (λ i. plantAt s c i .agent) (c .plants);
+      flags = listTo (λ i. plantAt s c i .inflexible) (c .plants);
+      offers = listTo (λ i. plantAt s c i .price) (c .plants);
+      available = listTo (λ i. plantAt s c i .availability) (c .plants);
+      sellers = listTo (λ j. contractAt s c j .seller) (c .contracts);
+      deals = record {
+        buyers = listTo (λ j. contractAt s c j .buyer) (c .contracts);
+        kinds = listTo (λ j. contractAt s c j .kind) (c .contracts);
+        prices = listTo (λ j. contractAt s c j .price) (c .contracts);
+        quantities = listTo (λ j. contractAt s c j .quantity) (c .contracts);
+      };
+    }

@@ -1,0 +1,9 @@
+pub mod Places
+pub mod Steps
+pub mod Insert
+pub mod Scan
+pub mod Decode
+pub mod Walks
+pub mod Tagged
+pub mod ByPlace
+pub mod Verdicts

@@ -1,0 +1,4 @@
+pub mod Assign
+pub mod Keys
+pub mod Order
+pub mod Walk

@@ -1,0 +1,2 @@
+pub mod Deals
+pub mod Hour

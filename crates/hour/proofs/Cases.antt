@@ -1,0 +1,151 @@
+-- Document 01, 'Small cases on each side': the cases marked P, 1 to 8, with 10, 11 and an edge, as one statement over a table.
+-- Assumes nothing.
+use Prim.Native.Nat.{ℕ, _*_}
+use mathlib.Core.List.{List, [], _∷_, map}
+use mathlib.Core.Path.{_≡_, refl}
+use lib.IntN.{ℤ, pos, negℤ}
+use lib.ListN.{length}
+use Rattle.sums.specs.Sums.{sum, peak, pick, keyed, stop, first}
+use Rattle.sums.specs.Lists.{total, listTo}
+use Rattle.refusals.specs.Refusals.{orElse}
+use Rattle.refusals.specs.declared.Verdict.{Verdict}
+use Rattle.share.specs.Share.{leftOver, goesBefore, rankOf, shareOf}
+use Rattle.merit.specs.Merit.{before, ahead, schedule, hourPrice}
+use Rattle.deals.specs.Deals.{stands, aheadOf, firmAt, restOf, cheaperOf, groupOf, demandedAt, amountAt, amountsOf}
+use Rattle.deals.specs.Hour.{ownTo, ownCount, ownOf, hourAmount}
+use Rattle.hour.specs.Sheet.{Sheet, agents, plants, contracts, retails}
+use Rattle.hour.specs.Balance.{referred, imported, exported, consumption, consumed, ownImport, entering, leaving, losses, consumptions, lossShare, commercial, demands, hourDemand}
+use Rattle.hour.specs.Lines.{scheduled, price, amount, own, contracted, bought, sold, moneyOf, money, cellOf, figure}
+use Rattle.hour.specs.Answer.{firstOver, balanceVerdict, coverVerdict}
+
+-- what is asked: a referral, a sharing, or of a sheet its first refusal of 7 to 10 (0 with none), its amounts, what agent a sells,
+-- its price and schedule, its first line with the agents' figures, its money
+pub data Ask : Type 0 where
+  referralOf : (reading factor : ℕ) → Ask
+  sharesOf : (amount : ℕ) (weights : List ℕ) → Ask
+  refusalOf : Sheet → Ask
+  amountsIn : Sheet → Ask
+  soldBy : Sheet → ℕ → Ask
+  scheduleOf : Sheet → Ask
+  linesOf : Sheet → Ask
+  moneyIn : Sheet → Ask
+
+abbrev numberOf : Verdict → ℕ
+numberOf Verdict.Fine = 0
+numberOf (Verdict.Refused r) = r .number
+
+unfoldable pub answer : Ask → List ℤ
+answer (referralOf x f) = pos (referred x f) ∷ []
+answer (sharesOf a ws) = listTo (λ i. pos (shareOf a ws i)) (length ws)
+answer (refusalOf s) = pos (numberOf (orElse (balanceVerdict s) (coverVerdict s))) ∷ []
+answer (amountsIn s) = listTo (λ j. pos (amount s j)) (contracts s)
+answer (soldBy s a) = pos (sold s a) ∷ []
+answer (scheduleOf s) = pos (price s) ∷ listTo (λ i. pos (scheduled s i)) (plants s)
+answer (linesOf s) = pos (price s) ∷ pos (hourDemand s) ∷ pos (losses s) ∷ listTo (λ k. pos (figure s k)) (6 * agents s)
+answer (moneyIn s) = listTo (money s) (agents s)
+
+pub record Case : Type 0 where
+  pub ask : Ask
+  pub due : List ℤ
+
+abbrev asked : Ask → List ℕ → Case
+asked q l = record { ask = q; due = map pos l }
+
+-- retailer 0 takes r, generator 1 delivers g and takes o; all plants and contracts are the generator's
+abbrev pairOf : (delivers takes own : ℕ) → (flags offers available : List ℕ) → (kinds prices quantities : List ℕ) → Sheet
+pairOf g r o flags offers available ks ps qs =
+    record {
+      kinds = 1 ∷ 2 ∷ [];
+      owners = 0 ∷ 1 ∷ [];
+      factors = 0 ∷ 0 ∷ [];
+      imports = r ∷ o ∷ [];
+      exports = 0 ∷ g ∷ [];
+      holders = map (λ (x : ℕ). 1) offers;
+      flags = flags;
+      offers = offers;
+      available = available;
+      sellers = map (λ (x : ℕ). 1) ks;
+      deals = record { buyers = map (λ (x : ℕ). 0) ks; kinds = ks; prices = ps; quantities = qs };
+    }
+
+-- with no losses the reading is the demand
+abbrev contractsOf : ℕ → (kinds prices quantities : List ℕ) → Sheet
+contractsOf d ks ps qs = pairOf d d 0 (0 ∷ []) (1 ∷ []) (d ∷ []) ks ps qs
+
+abbrev plantsOf : ℕ → (flags offers available : List ℕ) → Sheet
+plantsOf d flags offers available = pairOf d d 0 flags offers available [] [] []
+
+abbrev ownImporter : Sheet
+ownImporter = pairOf 13 10 3 (0 ∷ []) (7 ∷ []) (13 ∷ []) (1 ∷ []) (5 ∷ []) (4 ∷ [])
+
+-- 'One hour in full'
+abbrev pub wholeHour : Sheet
+wholeHour =
+    record {
+      kinds = 2 ∷ 1 ∷ 1 ∷ 2 ∷ [];
+      owners = 0 ∷ 3 ∷ 1 ∷ 2 ∷ [];
+      factors = 0 ∷ 0 ∷ 0 ∷ 1000 ∷ [];
+      imports = 0 ∷ 10 ∷ 500 ∷ 400 ∷ [];
+      exports = 600 ∷ 410 ∷ 0 ∷ 0 ∷ [];
+      holders = 0 ∷ 3 ∷ 0 ∷ [];
+      flags = 0 ∷ 0 ∷ 1 ∷ [];
+      offers = 5000 ∷ 8000 ∷ 9000 ∷ [];
+      available = 700 ∷ 500 ∷ 100 ∷ [];
+      sellers = 0 ∷ 3 ∷ 0 ∷ 3 ∷ [];
+      deals = record {
+        buyers = 1 ∷ 1 ∷ 1 ∷ 2 ∷ [];
+        kinds = 1 ∷ 3 ∷ 3 ∷ 2 ∷ [];
+        prices = 6000 ∷ 7000 ∷ 7000 ∷ 6500 ∷ [];
+        quantities = 400 ∷ 100 ∷ 50 ∷ 500 ∷ [];
+      };
+    }
+
+unfoldable pub cases : List Case
+cases =
+    -- 1
+    asked (referralOf 1 5000) (2 ∷ [])
+    ∷ asked (referralOf 1 4999) (1 ∷ [])
+    ∷ asked (referralOf 0 5000) (0 ∷ [])
+    -- 2
+    ∷ asked (sharesOf 10 (1 ∷ 1 ∷ 1 ∷ [])) (4 ∷ 3 ∷ 3 ∷ [])
+    ∷ asked (sharesOf 1 (1 ∷ 1 ∷ [])) (1 ∷ 0 ∷ [])
+    ∷ asked (sharesOf 7 (2 ∷ 0 ∷ 5 ∷ [])) (2 ∷ 0 ∷ 5 ∷ [])
+    -- 3
+    ∷ asked (amountsIn (contractsOf 100 (1 ∷ 2 ∷ []) (50 ∷ 60 ∷ []) (100 ∷ 70 ∷ []))) (100 ∷ 0 ∷ [])
+    ∷ asked (amountsIn (contractsOf 101 (1 ∷ 2 ∷ []) (50 ∷ 60 ∷ []) (100 ∷ 70 ∷ []))) (100 ∷ 70 ∷ [])
+    -- 4
+    ∷ asked (amountsIn (contractsOf 100 (2 ∷ 1 ∷ []) (40 ∷ 50 ∷ []) (70 ∷ 100 ∷ []))) (70 ∷ 100 ∷ [])
+    ∷ asked (soldBy (contractsOf 100 (2 ∷ 1 ∷ []) (40 ∷ 50 ∷ []) (70 ∷ 100 ∷ [])) 0) (70 ∷ [])
+    -- 5
+    ∷ asked (amountsIn (contractsOf 0 (3 ∷ []) (1 ∷ []) (5 ∷ []))) (0 ∷ [])
+    -- 6: the price, then the schedule
+    ∷ asked (scheduleOf (plantsOf 10 (0 ∷ 0 ∷ []) (7 ∷ 7 ∷ []) (4 ∷ 6 ∷ []))) (7 ∷ 4 ∷ 6 ∷ [])
+    ∷ asked (scheduleOf (plantsOf 0 (0 ∷ 0 ∷ []) (7 ∷ 7 ∷ []) (4 ∷ 6 ∷ []))) (0 ∷ 0 ∷ 0 ∷ [])
+    -- 7
+    ∷ asked (scheduleOf (plantsOf 5 (1 ∷ 0 ∷ []) (3 ∷ 9 ∷ []) (5 ∷ 5 ∷ []))) (0 ∷ 5 ∷ 0 ∷ [])
+    -- 8: settled; price, demand and losses, then loss share, own energy, generator import, contracted, bought and sold an agent
+    ∷ asked (refusalOf wholeHour) (0 ∷ [])
+    ∷ asked (linesOf wholeHour)
+    (8000 ∷ 1010 ∷ 60
+    ∷ 0 ∷ 700 ∷ 0 ∷ 444 ∷ 0 ∷ 256
+    ∷ 32 ∷ 532 ∷ 0 ∷ 532 ∷ 0 ∷ 0
+    ∷ 28 ∷ 468 ∷ 0 ∷ 500 ∷ 0 ∷ 32
+    ∷ 0 ∷ 310 ∷ 10 ∷ 588 ∷ 288 ∷ 0
+    ∷ [])
+    ∷ record { ask = moneyIn wholeHour; due = pos 2048000 ∷ pos 0 ∷ pos 256000 ∷ negℤ (pos 2304000) ∷ [] }
+    ∷ asked (amountsIn wholeHour) (400 ∷ 88 ∷ 44 ∷ 500 ∷ [])
+    ∷ asked (scheduleOf wholeHour) (8000 ∷ 700 ∷ 310 ∷ 0 ∷ [])
+    -- 10
+    ∷ asked (refusalOf (pairOf 100 0 0 [] [] [] [] [] [])) (9 ∷ [])
+    ∷ asked (refusalOf (pairOf 0 100 0 [] [] [] [] [] [])) (8 ∷ [])
+    -- 11
+    ∷ asked (refusalOf (pairOf 100 90 0 (0 ∷ []) (1 ∷ []) (99 ∷ []) [] [] [])) (10 ∷ [])
+    ∷ asked (refusalOf (pairOf 100 90 0 (0 ∷ []) (1 ∷ []) (100 ∷ []) [] [] [])) (0 ∷ [])
+    -- a generator that sells above its contracts buys its own import all the same: 3 bought and 9 sold, not 6 sold
+    ∷ asked (linesOf ownImporter) (7 ∷ 13 ∷ 0 ∷ 0 ∷ 10 ∷ 0 ∷ 4 ∷ 6 ∷ 0 ∷ 0 ∷ 13 ∷ 3 ∷ 4 ∷ 3 ∷ 9 ∷ [])
+    ∷ record { ask = moneyIn ownImporter; due = negℤ (pos 42) ∷ pos 42 ∷ [] }
+    ∷ []
+
+pub cases-hold : map (λ (c : Case). answer (c .ask)) cases ≡ map (λ (c : Case). c .due) cases
+unfolding answer cases sum peak pick keyed stop first total listTo leftOver goesBefore rankOf shareOf before ahead schedule hourPrice stands aheadOf firmAt restOf cheaperOf groupOf demandedAt amountAt amountsOf ownTo ownCount ownOf hourAmount retails referred imported exported consumption consumed ownImport entering leaving losses consumptions lossShare commercial demands hourDemand scheduled price amount own contracted bought sold moneyOf money cellOf figure firstOver balanceVerdict coverVerdict
+cases-hold = refl

@@ -1,0 +1,141 @@
+-- Refusals 7 to 11: what each answer says of the sheet, and the answer in each case. Assumes nothing.
+use Prim.Native.Nat.{ℕ, _*_, _≤_, _<_}
+use native.Mathlib.Omega.{arith}
+use mathlib.Core.Bool.{Bool, true, false, _&&_, _||_}
+use mathlib.Core.List.{List, [], _∷_}
+use mathlib.Core.Logic.{_⊎_, inl, inr}
+use mathlib.Core.Path.{_≡_, refl}
+use lib.Dec.{ltb, leb, eqb}
+use lib.ListN.{length}
+use borrow.Author.Tests.{ltb-false, leb-true, eqb-true, ltb-true, le-leb, lt-leb}
+use Rattle.sums.specs.Sums.{sum}
+use Rattle.sums.specs.Lists.{at}
+use Rattle.sums.proofs.First.{first-below}
+use Rattle.refusals.specs.Refusals.{badExports, badGain, unshared, uncovered, noRoom, refused, refusedUnless}
+use Rattle.refusals.specs.declared.Refusal.{Refusal}
+use Rattle.refusals.specs.declared.Verdict.{Verdict}
+use Rattle.hour.specs.Sheet.{Sheet, agents, plants, contracts, retails}
+use Rattle.hour.specs.Balance.{imported, exported, consumed, entering, leaving, losses, hourDemand}
+use Rattle.hour.specs.Answer.{Lent, firstOver, balanceVerdict, coverVerdict, roomVerdict, hourVerdict}
+use Rattle.rows.proofs.Good.{and-left, and-right}
+use Rattle.refusals.proofs.Fine.{fine-parts, fine-test}
+
+-- ---- what passing refusals 7 to 9 says
+pub record Balanced (s : Sheet) : Type 0 where
+  pub exports : (a : ℕ) → a < agents s → retails s a ≡ true → exported s a ≤ imported s a
+  pub gain : leaving s ≤ entering s
+  pub shared : (losses s ≡ 0) ⊎ (0 < consumed s)
+
+or-cases : (x y : ℕ) → (eqb x 0 || ltb 0 y) ≡ true → (x ≡ 0) ⊎ (0 < y)
+or-cases x y h = go (eqb x 0) refl h
+  where
+    go : (b : Bool) → eqb x 0 ≡ b → (b || ltb 0 y) ≡ true → (x ≡ 0) ⊎ (0 < y)
+    go true e k = inl (eqb-true x 0 e)
+    go false e k = inr (ltb-true 0 y k)
+
+abbrev tests : Sheet → List Verdict
+tests s =
+    refusedUnless (leb (agents s) (firstOver s)) badExports (firstOver s)
+    ∷ refusedUnless (leb (leaving s) (entering s)) badGain 0
+    ∷ refusedUnless (eqb (losses s) 0 || ltb 0 (consumed s)) unshared 0
+    ∷ []
+
+module _ (s : Sheet) where
+  pub balanced : balanceVerdict s ≡ Verdict.Fine → Balanced s
+  unfolding balanceVerdict firstOver
+  balanced h =
+      let all = fine-parts (tests s) h in
+      let none : agents s ≤ firstOver s = leb-true _ _ (fine-test _ badExports (firstOver s) (all .0)) in
+      record {
+        exports = λ a l r. within a r (first-below (agents s) a (λ b. retails s b && ltb (imported s b) (exported s b)) (omega arith));
+        gain = leb-true _ _ (fine-test _ badGain 0 (all .1 .0));
+        shared = or-cases (losses s) (consumed s) (fine-test _ unshared 0 (all .1 .1 .0));
+      }
+    where
+      within : (a : ℕ) → retails s a ≡ true → (retails s a && ltb (imported s a) (exported s a)) ≡ false → exported s a ≤ imported s a
+      within a r e = ltb-false _ _ (rw r at e)
+
+  -- ---- refusals 7 to 9, in each case
+  pub balance-7 : firstOver s < agents s → balanceVerdict s ≡ refused badExports (firstOver s)
+  unfolding balanceVerdict
+  balance-7 h = simp (lt-leb _ _ h)
+
+  module _ (a : agents s ≤ firstOver s) where
+    pub balance-8 : entering s < leaving s → balanceVerdict s ≡ refused badGain 0
+    unfolding balanceVerdict
+    balance-8 h = simp (le-leb _ _ a, lt-leb _ _ h)
+
+    module _ (b : leaving s ≤ entering s) where
+      pub balance-9 : (eqb (losses s) 0 || ltb 0 (consumed s)) ≡ false → balanceVerdict s ≡ refused unshared 0
+      unfolding balanceVerdict
+      balance-9 h = simp (le-leb _ _ a, le-leb _ _ b, h)
+
+      pub balance-fine : (eqb (losses s) 0 || ltb 0 (consumed s)) ≡ true → balanceVerdict s ≡ Verdict.Fine
+      unfolding balanceVerdict
+      balance-fine h = simp (le-leb _ _ a, le-leb _ _ b, h)
+
+  -- ---- refusal 10
+  pub covered : coverVerdict s ≡ Verdict.Fine → hourDemand s ≤ sum (plants s) (at (s .available))
+  unfolding coverVerdict
+  covered h = leb-true _ _ (fine-test _ uncovered 0 h)
+
+  pub cover-fine : hourDemand s ≤ sum (plants s) (at (s .available)) → coverVerdict s ≡ Verdict.Fine
+  unfolding coverVerdict
+  cover-fine h = simp (le-leb _ _ h)
+
+  pub cover-10 : sum (plants s) (at (s .available)) < hourDemand s → coverVerdict s ≡ refused uncovered 0
+  unfolding coverVerdict
+  cover-10 h = simp (lt-leb _ _ h)
+
+-- ---- refusal 11
+pub record Roomy (s : Sheet) (l : Lent) : Type 0 where
+  pub figures : 6 * agents s ≤ length (l .figures)
+  pub money : agents s ≤ length (l .money)
+  pub schedule : plants s ≤ length (l .schedule)
+  pub amounts : contracts s ≤ length (l .amounts)
+
+module _ (s : Sheet) (l : Lent) where
+  pub roomy : roomVerdict s l ≡ Verdict.Fine → Roomy s l
+  unfolding roomVerdict
+  roomy h =
+      let f = leb (6 * agents s) (length (l .figures)) in
+      let m = leb (agents s) (length (l .money)) in
+      let p = leb (plants s) (length (l .schedule)) in
+      let q = leb (contracts s) (length (l .amounts)) in
+      let e₄ = fine-test (f && m && p && q) noRoom 0 h in
+      let e₃ = and-left (f && m && p) q e₄ in
+      let e₂ = and-left (f && m) p e₃ in
+      record {
+        figures = leb-true _ _ (and-left f m e₂);
+        money = leb-true _ _ (and-right f m e₂);
+        schedule = leb-true _ _ (and-right (f && m) p e₃);
+        amounts = leb-true _ _ (and-right (f && m && p) q e₄);
+      }
+
+  pub room-11 : (leb (6 * agents s) (length (l .figures)) && leb (agents s) (length (l .money)) && leb (plants s) (length (l .schedule)) && leb (contracts s) (length (l .amounts))) ≡ false
+      → roomVerdict s l ≡ refused noRoom 0
+  unfolding roomVerdict
+  room-11 h = rw h
+
+  pub room-fine : Roomy s l → roomVerdict s l ≡ Verdict.Fine
+  unfolding roomVerdict
+  room-fine r = simp (le-leb _ _ (r .figures), le-leb _ _ (r .money), le-leb _ _ (r .schedule), le-leb _ _ (r .amounts))
+
+  -- ---- the first of refusals 7 to 11
+  pub hour-balance : (r : Refusal) → balanceVerdict s ≡ Verdict.Refused r → hourVerdict s l ≡ Verdict.Refused r
+  unfolding hourVerdict
+  hour-balance r h = rw h
+
+  module _ (b : balanceVerdict s ≡ Verdict.Fine) where
+    pub hour-cover : (r : Refusal) → coverVerdict s ≡ Verdict.Refused r → hourVerdict s l ≡ Verdict.Refused r
+    unfolding hourVerdict
+    hour-cover r h = rw (b, h)
+
+    module _ (d : coverVerdict s ≡ Verdict.Fine) where
+      pub hour-room : (r : Refusal) → roomVerdict s l ≡ Verdict.Refused r → hourVerdict s l ≡ Verdict.Refused r
+      unfolding hourVerdict
+      hour-room r h = rw (b, d, h)
+
+      pub hour-fine : roomVerdict s l ≡ Verdict.Fine → hourVerdict s l ≡ Verdict.Fine
+      unfolding hourVerdict
+      hour-fine h = rw (b, d, h)

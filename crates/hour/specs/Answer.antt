@@ -1,0 +1,55 @@
+-- Document 01, 'When the sheet is turned away', of an accepted sheet and the four lent lists: refusals 7 to 11, in this order.
+-- Assumes nothing.
+use Prim.Native.Nat.{ℕ, _*_}
+use mathlib.Core.Bool.{_&&_, _||_}
+use mathlib.Core.List.{List, [], _∷_}
+use lib.IntN.{ℤ}
+use lib.ListN.{length}
+use lib.Dec.{ltb, leb, eqb}
+use Rattle.sums.specs.Sums.{sum, first}
+use Rattle.sums.specs.Lists.{at}
+use Rattle.refusals.specs.Refusals.{badExports, badGain, unshared, uncovered, noRoom, refusedUnless, firstOf}
+use Rattle.refusals.specs.declared.Verdict.{Verdict}
+use Rattle.hour.specs.Sheet.{Sheet, agents, plants, contracts, retails}
+use Rattle.hour.specs.Balance.{imported, exported, consumed, entering, leaving, losses, hourDemand}
+use Rattle.hour.specs.Lines.{price}
+use Rattle.hour.specs.declared.Summary.{Summary}
+
+-- the four lent lists
+pub record Lent : Type 0 where
+  pub figures : List ℕ
+  pub money : List ℤ
+  pub schedule : List ℕ
+  pub amounts : List ℕ
+
+-- the lowest retailer whose referred exports exceed its referred imports; the count of agents where there is none
+unfoldable pub firstOver : Sheet → ℕ
+firstOver s = first (agents s) (λ a. retails s a && ltb (imported s a) (exported s a))
+
+-- refusals 7 to 9
+unfoldable pub balanceVerdict : Sheet → Verdict
+balanceVerdict s =
+    firstOf (refusedUnless (leb (agents s) (firstOver s)) badExports (firstOver s)
+    ∷ refusedUnless (leb (leaving s) (entering s)) badGain 0
+    ∷ refusedUnless (eqb (losses s) 0 || ltb 0 (consumed s)) unshared 0
+    ∷ [])
+
+-- refusal 10
+unfoldable pub coverVerdict : Sheet → Verdict
+coverVerdict s = refusedUnless (leb (hourDemand s) (sum (plants s) (at (s .available)))) uncovered 0
+
+-- refusal 11: six cells and one money an agent, one cell a plant and a contract
+unfoldable pub roomVerdict : Sheet → Lent → Verdict
+roomVerdict s l =
+    refusedUnless
+    (leb (6 * agents s) (length (l .figures)) && leb (agents s) (length (l .money)) && leb (plants s) (length (l .schedule)) && leb (contracts s) (length (l .amounts)))
+    noRoom
+    0
+
+unfoldable pub hourVerdict : Sheet → Lent → Verdict
+hourVerdict s l = firstOf (balanceVerdict s ∷ coverVerdict s ∷ roomVerdict s l ∷ [])
+
+-- a settled hour has number 0 and place 0; a refusal has price, demand and losses 0
+abbrev pub summaryOf : Verdict → Sheet → Summary
+summaryOf Verdict.Fine s = record { number = 0; place = 0; price = price s; demand = hourDemand s; losses = losses s }
+summaryOf (Verdict.Refused r) s = record { number = r .number; place = r .place; price = 0; demand = 0; losses = 0 }

@@ -1,0 +1,62 @@
+-- Document 01, 'From readings to commercial demand'. Assumes nothing.
+use Prim.Native.Nat.{ℕ, _+_, _-_, _*_, _/_}
+use mathlib.Core.List.{List}
+use mathlib.Core.Bool.{not}
+use Rattle.sums.specs.Sums.{sum, pick, keyed}
+use Rattle.sums.specs.Lists.{at, listTo}
+use Rattle.share.specs.Share.{shareOf}
+use Rattle.hour.specs.Sheet.{Sheet, agents, boundaries, retails}
+
+-- 1. Referral (1.1.1.2.3): a reading times (10,000 + factor), plus 5,000, divided by 10,000, rounded down
+unfoldable pub referred : (reading factor : ℕ) → ℕ
+referred x f = (x * (10000 + f) + 5000) / 10000
+
+-- each import and each export of each row by itself, summed by agent
+unfoldable pub imported : Sheet → ℕ → ℕ
+imported s a = keyed (at (s .owners)) (λ j. referred (at (s .imports) j) (at (s .factors) j)) (boundaries s) a
+
+unfoldable pub exported : Sheet → ℕ → ℕ
+exported s a = keyed (at (s .owners)) (λ j. referred (at (s .exports) j) (at (s .factors) j)) (boundaries s) a
+
+-- 2. A retailer's consumption is its referred imports less its referred exports
+unfoldable pub consumption : Sheet → ℕ → ℕ
+consumption s a = pick (retails s a) (imported s a - exported s a)
+
+unfoldable pub consumed : Sheet → ℕ
+consumed s = sum (agents s) (consumption s)
+
+-- a generator's import is its own consumption
+unfoldable pub ownImport : Sheet → ℕ → ℕ
+ownImport s a = pick (not (retails s a)) (imported s a)
+
+-- 3. Losses (1.1.1.2.2): all energy entering the national system less all energy leaving it
+unfoldable pub entering : Sheet → ℕ
+entering s = sum (agents s) (exported s)
+
+unfoldable pub leaving : Sheet → ℕ
+leaving s = sum (agents s) (imported s)
+
+unfoldable pub losses : Sheet → ℕ
+losses s = entering s - leaving s
+
+-- 4. Losses are shared over retailers in proportion to consumption. Generators carry none: their consumption here is 0
+unfoldable pub consumptions : Sheet → List ℕ
+consumptions s = listTo (consumption s) (agents s)
+
+unfoldable pub lossShare : Sheet → ℕ → ℕ
+lossShare s a = shareOf (losses s) (consumptions s) a
+
+-- 5. Commercial demand is consumption plus share
+unfoldable pub commercial : Sheet → ℕ → ℕ
+commercial s a = consumption s a + lossShare s a
+
+unfoldable pub demands : Sheet → List ℕ
+demands s = listTo (commercial s) (agents s)
+
+-- the hour's demand is the sum of commercial demands plus generators' imports
+unfoldable pub hourDemand : Sheet → ℕ
+hourDemand s = sum (agents s) (λ a. commercial s a + ownImport s a)
+
+-- it equals the sum of generator exports: a generator is metered at 220 kV, so these are its readings
+unfoldable pub generated : Sheet → ℕ
+generated s = sum (boundaries s) (λ j. pick (not (retails s (at (s .owners) j))) (at (s .exports) j))

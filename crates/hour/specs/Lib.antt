@@ -1,0 +1,6 @@
+pub mod Sheet
+pub mod Balance
+pub mod Signed
+pub mod Lines
+pub mod Sound
+pub mod Answer

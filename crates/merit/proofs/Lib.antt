@@ -1,0 +1,5 @@
+pub mod Levels
+pub mod Schedule
+pub mod LeastCost
+pub mod Price
+pub mod Cases

@@ -1,0 +1,2 @@
+pub mod Merit
+pub mod Levels

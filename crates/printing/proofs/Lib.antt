@@ -1,0 +1,6 @@
+pub mod Text
+pub mod Money
+pub mod Printing
+pub mod Digits
+pub mod Length
+pub mod Cases

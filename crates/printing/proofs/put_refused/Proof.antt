@@ -1,0 +1,26 @@
+use Prim.Native.Nat.{ℕ}
+use mathlib.Core.Path.{_≡_, refl, sym, ap, _∙_}
+use mathlib.Core.List.{List, [], _∷_, _++_}
+use native.Mathlib.Omega.{arith}
+use borrow.Author.Needs.{needs}
+use denote.Ref.{now}
+use lib.ListN.{length, drop}
+use lib.Seq.{drop-length}
+use Rattle.printing.specs.Page.{refusedText}
+use Rattle.printing.proofs.put_refused.Statement.{statement}
+use Rattle.printing.proofs.put_refused.Tie as tie
+
+returns : tie.Need-returns
+unfolding refusedText
+returns c =
+    let b = (c .before .before .before .before .before .before .before .before .before .before .before .before .before .before .before .before .before) .put-byte .ensures .text-is in
+    let d = (c .before .before .before .before .before .before .before .before .before .before .before .before) .put-decimal .ensures .text-is in
+    let n = (c .before .before .before .before .before .before .before) .put-spaced .ensures .text-is in
+    let w = (c .before .before) .put-word .ensures .text-is in
+    (w ∙ (rw (n, d, b, (c .before .before .before .before .before .before .before .before .before .before .before .before .before) .wide .ensures, drop-length)), omega arith)
+
+pub put-refused-spec : {M : Type 1} → statement M
+put-refused-spec =
+    tie.close
+    (tie.spec (λ c κs. search needs) (λ c κs. search needs) (λ c κs. search needs) (λ c. search needs)
+    (λ c κs. search needs) (λ c. search needs) (λ c κs. search needs) (λ c. search needs) returns)

@@ -1,0 +1,50 @@
+use Prim.Native.Nat.{ℕ, _≤_, _-_, _+_}
+use mathlib.Core.Path.{_≡_, refl, sym, ap, _∙_}
+use mathlib.Core.List.{List, _∷_, _++_}
+use native.Mathlib.Omega.{arith}
+use denote.Ref.{now}
+use lib.ListN.{length, drop, getD}
+use lib.Seq.{drop-length}
+use Rattle.printing.specs.Put.{Put}
+use Rattle.printing.proofs.Text.{drop-more}
+use Rattle.printing.proofs.put_word.Statement.{statement}
+use Rattle.printing.proofs.put_word.Tie as tie
+
+abbrev Inv-loop : tie.InvT-loop
+Inv-loop s₀ at word i₀ k₀ s i k =
+    (k ≤ length word) × (at + k ≤ i + length word) × (i ≤ at) × (length s ≡ length s₀) × (drop i s ≡ drop k word ++ drop at s₀)
+
+abbrev μ-loop : tie.MeasureT-loop
+μ-loop s₀ at word i₀ k₀ s i k = k
+
+loop-holds : tie.Need-loop-holds Inv-loop μ-loop
+loop-holds c =
+    let a = (c .before .before) .args in
+    (omega arith, omega arith, omega arith, refl, sym (ap (λ (t : List ℕ). t ++ drop (a .at) (now (a .s))) (drop-length (now (a .word)))))
+
+loop-again : tie.Need-loop-again Inv-loop μ-loop
+loop-again c =
+    let b = (c .before .before .before .before .before .before) .loop in
+    let a = (c .before .before .before .before .before .before .before .before .before) .args in
+    let word = now (a .word) in
+    let p = (c .before .before) .put-byte in (
+      omega arith,
+      omega arith,
+      omega arith,
+      p .kept .0 ∙ b .inv .3,
+      p .ensures .text-is
+          ∙ ap (λ (t : List ℕ). getD word (b .k - 1) 0 ∷ t) (b .inv .4)
+          ∙ sym (ap (λ (t : List ℕ). t ++ drop (a .at) (now (a .s))) (drop-more word (b .k) (omega arith) (omega arith))),
+    )
+
+returns : tie.Need-returns Inv-loop μ-loop
+returns c =
+    let b = (c .before) .loop in
+    let e : b .k ≡ 0 = omega arith in
+    record { text-is = rw e at (b .inv .4); low = omega arith; high = omega arith }
+
+pub put-word-spec : {M : Type 1} → statement M
+put-word-spec =
+    tie.close
+    (tie.spec Inv-loop μ-loop loop-holds (λ c. omega arith) (λ c. omega arith) (λ c κs. omega arith)
+    (λ c. omega arith) loop-again (λ c. c .before .loop .inv .3) returns)

@@ -1,0 +1,4 @@
+pub mod OneLine
+pub mod Fronts
+pub mod Stages
+pub mod Judged

@@ -1,0 +1,172 @@
+-- What dispatch, contracts and the sums by agent give for the columns of a sound sheet is what the definitions say. Assumes nothing.
+use Prim.Native.Nat.{ℕ, _+_, _-_, _*_, _≤_, _<_}
+use native.Mathlib.Omega.{arith}
+use mathlib.Core.Bool.{cond}
+use mathlib.Core.List.{List}
+use mathlib.Core.Path.{_≡_, refl, ap, _∙_, sym}
+use lib.Dec.{ltb, eqb}
+use lib.IntN.{ℤ, pos}
+use lib.ListN.{length, take}
+use lib.Seq.{getD-take, length-take-le}
+use Rattle.sums.specs.Sums.{pick, keyed}
+use Rattle.sums.specs.Lists.{at, Filled}
+use Rattle.sums.proofs.Sums.{peak-eq}
+use Rattle.sums.proofs.Keyed.{keyed-eq}
+use Rattle.sums.proofs.Lists.{length-listTo}
+use Rattle.sums.proofs.Fill.{filled-count, filled-by}
+use Rattle.refusals.specs.declared.Verdict.{Verdict}
+use Rattle.rows.specs.Limits.{mostAgents}
+use Rattle.rows.specs.Rows.{isRetailer}
+use Rattle.merit.specs.Merit.{hourPrice}
+use Rattle.dispatch.specs.Dispatch.{Dispatched, priceOf}
+use Rattle.dispatch.proofs.Dispatched.{dispatched-plain, price-plain}
+use Rattle.contracts.specs.Assign.{rowsOf, assignVerdict, Assigned}
+use Rattle.contracts.proofs.Verdicts.{Laid, Row, assign-fine}
+use Rattle.hour.specs.Sheet.{Sheet, agents, plants, contracts, retails}
+use Rattle.hour.specs.Sound.{Sound}
+use Rattle.hour.specs.Balance.{lossShare, ownImport, commercial, demands, hourDemand}
+use Rattle.hour.specs.Lines.{scheduled, price, amount, own, contracted, bought, sold, money, figure}
+use Rattle.hour.proofs.Bounds.{scheduled-le, import-le, imported-le}
+use Rattle.hour.proofs.Fits.{amount-le, contracted-le}
+use Rattle.hour.proofs.Cells.{figure-is}
+use Rattle.settle.specs.Parts.{Countable, Tallied, Covered, buys, sells, lineCell, lineMoney}
+
+-- the front of a filled list, cell by cell
+pub front-at : (before after : List ℕ) (n : ℕ) (f : ℕ → ℕ) → Filled 0 before after n f → (i : ℕ) → i < n → at (take n after) i ≡ f i
+front-at before after n f r i l = getD-take n after i 0 l ∙ r .done i l
+
+pub front-long : (before after : List ℕ) (n : ℕ) (f : ℕ → ℕ) → Filled 0 before after n f → n ≤ length before → length (take n after) ≡ n
+front-long before after n f r l = length-take-le n after (omega (arith, r .long))
+
+pub front-fits : (before after : List ℕ) (n : ℕ) (f : ℕ → ℕ) → Filled 0 before after n f → n ≤ length before → n ≤ length after
+front-fits before after n f r l = omega (arith, r .long)
+
+module _ (h : Sheet) (ok : Sound h) where
+  -- ---- plants
+  module _ (n : ℕ) (e : plants h ≡ n) where
+    pub scheduled-are : (os vs : List ℕ) (d : ℕ) (before : List ℕ) (r : Verdict) (after : List ℕ) → os ≡ h .offers → vs ≡ h .available
+        → Covered h d (length before) → Dispatched os vs d before r after → Filled 0 before after n (scheduled h)
+    unfolding scheduled
+    scheduled-are os vs d before r after p q c w =
+        let k : Dispatched (h .offers) (h .available) (hourDemand h) before r after = rw (p, q, c .demand) at w in
+        filled-count 0 _ _ _ _ _ e
+        (dispatched-plain (h .offers) (h .available) (plants h) (ok .whole .offers) (ok .whole .available) (hourDemand h) before r after (c .enough) (c .fits) k .1)
+
+    module _ (before after : List ℕ) (l : n ≤ length before) (f : Filled 0 before after n (scheduled h)) where
+      pub price-is : (os ts : List ℕ) → os ≡ h .offers → ts ≡ h .flags → priceOf os ts (take n after) ≡ price h
+      unfolding price hourPrice
+      price-is os ts p q =
+          rw (p, q)
+          (price-plain (h .offers) (h .available) (plants h) (ok .whole .offers) (ok .whole .available) (h .flags) (take n after) (ok .whole .flags) (front-long _ _ _ _ f l ∙ sym e)
+          ∙ peak-eq (plants h) _ _
+          (λ i m. ap (λ (x : ℕ). pick (eqb (at (h .flags) i) 0) (pick (ltb 0 x) (at (h .offers) i))) (front-at _ _ _ _ f i (omega arith))))
+
+      pub plants-count : (ks : List ℕ) → ks ≡ h .holders → Countable ks (take n after)
+      plants-count ks p =
+          rw p
+          (record {
+            few = omega (arith, ok .few .plants);
+            long = omega (arith, front-long _ _ _ _ f l);
+            agent = λ j m. omega (arith, ok .plant j m .there, ok .few .agents);
+            value = λ j m. omega (arith, front-at _ _ _ _ f j (omega arith), scheduled-le h ok j m);
+          })
+
+      pub made-is : (ks sums : List ℕ) → ks ≡ h .holders → Tallied ks (take n after) sums → (a : ℕ) → a < mostAgents
+          → at sums a ≡ keyed (at (h .holders)) (scheduled h) (plants h) a
+      made-is ks sums p t a m =
+          (rw p at t) a m ∙ keyed-eq _ _ _ _ (plants h) a (λ j k. refl) (λ j k. front-at _ _ _ _ f j (omega arith))
+
+  -- ---- contracts
+  demands-long : length (demands h) ≡ agents h
+  unfolding demands
+  demands-long = length-listTo (commercial h) (agents h)
+
+  deals-laid : Laid (h .deals) (demands h)
+  deals-laid =
+      let n = ok .whole .buyers in
+      record {
+        kinds = ok .whole .kinds ∙ sym n;
+        prices = ok .whole .prices ∙ sym n;
+        quantities = ok .whole .quantities ∙ sym n;
+        few = omega (arith, ok .few .contracts);
+        agents = omega (arith, demands-long, ok .few .agents);
+      }
+
+  deals-row : (i : ℕ) → i < contracts h → Row (at (h .deals .buyers) i) (at (h .deals .kinds) i) (at (h .deals .prices) i) (at (h .deals .quantities) i) (length (demands h))
+  deals-row i m =
+      let k = ok .contract i m in
+      record {
+        buyer = omega (arith, k .buyerThere, demands-long);
+        least = k .least;
+        most = k .most;
+        price = k .price;
+        quantity = k .quantity;
+      }
+
+  module _ (n : ℕ) (e : contracts h ≡ n) where
+    pub amounts-are : (bs ks ps qs ds before : List ℕ) (r : Verdict) (after : List ℕ) → bs ≡ h .deals .buyers → ks ≡ h .deals .kinds
+        → ps ≡ h .deals .prices → qs ≡ h .deals .quantities → ds ≡ demands h → n ≤ length before
+        → Assigned (rowsOf bs ks ps qs) ds before r after → Filled 0 before after n (amount h)
+    unfolding amount
+    amounts-are bs ks ps qs ds before r after b k p q d l w =
+        let x : Assigned (h .deals) (demands h) before r after = rw (b, k, p, q, d) at w in
+        let m = ok .whole .buyers in
+        let v : assignVerdict (h .deals) (demands h) before ≡ Verdict.Fine = assign-fine (h .deals) (demands h) before deals-laid (λ i j. deals-row i (omega arith)) (omega arith) in
+        filled-count 0 _ _ _ _ _ (m ∙ e) (rw v at (x .result))
+
+    -- what each agent holds as a seller, or as a buyer
+    module _ (before after : List ℕ) (l : n ≤ length before) (f : Filled 0 before after n (amount h)) (keys : List ℕ) (long : length keys ≡ contracts h) where
+      pub contracts-count : (ks : List ℕ) → ks ≡ keys → ((j : ℕ) → j < contracts h → at keys j < agents h) → Countable ks (take n after)
+      contracts-count ks p there =
+          rw p
+          (record {
+            few = omega (arith, ok .few .contracts);
+            long = omega (arith, front-long _ _ _ _ f l);
+            agent = λ j m. omega (arith, there j (omega arith), ok .few .agents);
+            value = λ j m. omega (arith, front-at _ _ _ _ f j (omega arith), amount-le h ok j (omega arith));
+          })
+
+      pub held-is : (ks sums : List ℕ) → ks ≡ keys → Tallied ks (take n after) sums → (a : ℕ) → a < mostAgents
+          → at sums a ≡ keyed (at keys) (amount h) (contracts h) a
+      held-is ks sums p t a m =
+          (rw (p, long) at t) a m ∙ keyed-eq _ _ _ _ (contracts h) a (λ j k. refl) (λ j k. front-at _ _ _ _ f j (omega arith))
+
+-- ---- an agent's own energy and what it holds under contract, by its kind
+module _ (h : Sheet) (a k x y : ℕ) (p : k ≡ at (h .kinds) a) where
+  pub own-is : x ≡ commercial h a → y ≡ keyed (at (h .holders)) (scheduled h) (plants h) a → cond (isRetailer k) x y ≡ own h a
+  unfolding own retails
+  own-is q r = rw (p, q, r)
+
+  pub contracted-is : x ≡ keyed (at (h .deals .buyers)) (amount h) (contracts h) a → y ≡ keyed (at (h .sellers)) (amount h) (contracts h) a
+      → cond (isRetailer k) x y ≡ contracted h a
+  unfolding contracted retails
+  contracted-is q r = rw (p, q, r)
+
+-- ---- the lines of n agents, from their columns
+module _ (h : Sheet) (n : ℕ) (e : agents h ≡ n) (ks ss os is cs : List ℕ) (k : (a : ℕ) → a < n → at ks a ≡ at (h .kinds) a)
+    (s : (a : ℕ) → a < n → at ss a ≡ lossShare h a) (o : (a : ℕ) → a < n → at os a ≡ own h a)
+    (i : (a : ℕ) → a < n → at is a ≡ ownImport h a) (c : (a : ℕ) → a < n → at cs a ≡ contracted h a) where
+  bought-is : (a : ℕ) → a < n → buys (at ks a) (at os a) (at is a) (at cs a) ≡ bought h a
+  unfolding bought retails
+  bought-is a l = rw (k a l, o a l, i a l, c a l)
+
+  sold-is : (a : ℕ) → a < n → sells (at ks a) (at os a) (at cs a) ≡ sold h a
+  unfolding sold retails
+  sold-is a l = rw (k a l, o a l, c a l)
+
+  pub figures-are : (before after : List ℕ) → Filled 0 before after (6 * n) (lineCell ks ss os is cs) → Filled 0 before after (6 * agents h) (figure h)
+  figures-are before after f =
+      let m : 6 * n ≡ 6 * agents h = omega arith in
+      filled-by 0 _ _ _ _ _
+      (figure-is h _ _ _ _ _ _ (λ a q. let l : a < n = omega arith in (s a l, o a l, i a l, c a l, bought-is a l, sold-is a l)))
+      (filled-count 0 _ _ _ _ _ m f)
+
+  pub money-are : (p : ℕ) → p ≡ price h → (before after : List ℤ) → Filled (pos 0) before after n (lineMoney ks os is cs p) → Filled (pos 0) before after (agents h) (money h)
+  unfolding money
+  money-are p q before after f =
+      filled-count (pos 0) _ _ _ _ _ (sym e)
+      (filled-by (pos 0) _ _ _ _ _ (λ a l. rw (bought-is a l, sold-is a l, q)) f)
+
+  -- a generator's shortfall and its own import fit together
+  pub lines-fit : Sound h → (a : ℕ) → a < n → at cs a - at os a + at is a ≤ 4294967295
+  lines-fit ok a l = omega (arith, c a l, i a l, contracted-le h ok a, import-le h a, imported-le h ok a)

@@ -1,0 +1,59 @@
+use borrow.Author.Needs.{needs}
+use native.Mathlib.Omega.{arith}
+use Prim.Native.Nat.{_≤_, _-_, _+_}
+use mathlib.Core.Path.{_≡_, ap}
+use Rattle.rows.specs.Bytes.{wordsAt}
+use Rattle.rows.specs.Rows.{plantOf}
+use Rattle.rows.specs.declared.Plant.{Plant}
+use Rattle.sums.specs.Lists.{Filled}
+use Rattle.sums.proofs.Fill.{filled-none, filled-more}
+use Rattle.sheet.proofs.Accepted.{accepted-few}
+use Rattle.settle.proofs.plants.columns.Statement.{statement}
+use Rattle.settle.proofs.plants.columns.Tie as tie
+
+abbrev Inv-loop : tie.InvT-loop
+Inv-loop bytes holders₀ flags₀ offers₀ available₀ start n i₀ holders flags offers available i =
+    (i ≤ n) × Filled 0 holders₀ holders i (λ j. plantOf (wordsAt bytes (start + j)) .agent)
+    × Filled 0 flags₀ flags i (λ j. plantOf (wordsAt bytes (start + j)) .inflexible)
+    × Filled 0 offers₀ offers i (λ j. plantOf (wordsAt bytes (start + j)) .price)
+    × Filled 0 available₀ available i (λ j. plantOf (wordsAt bytes (start + j)) .availability)
+
+abbrev μ-loop : tie.MeasureT-loop
+μ-loop bytes holders₀ flags₀ offers₀ available₀ start n i₀ holders flags offers available i = n - i
+
+-- the row that was read
+is : (c : tie.After-plant-of Inv-loop μ-loop) → c .plant-of .result ≡ plantOf (wordsAt ((c .before .before .before .before .before .before .before .before .before .before) .args .bytes .now) ((c .before .before .before .before .before .before .before .before .before .before) .args .c .agents + (c .before .before .before .before .before .before .before .before .before .before) .args .c .boundaries + (c .before .before .before) .loop .i))
+is c = cc
+
+add-start : tie.Need-add-start Inv-loop μ-loop
+add-start c = omega (arith, accepted-few _ _ ((c .before .before .before .before .before .before) .pre .0))
+
+loop-holds : tie.Need-loop-holds Inv-loop μ-loop
+loop-holds c = (search needs, filled-none 0 _ _, filled-none 0 _ _, filled-none 0 _ _, filled-none 0 _ _)
+
+add-row-at : tie.Need-add-row-at Inv-loop μ-loop
+add-row-at c = omega (arith, accepted-few _ _ ((c .before .before .before .before .before .before .before .before) .pre .0))
+
+loop-again : tie.Need-loop-again Inv-loop μ-loop
+loop-again c =
+    let l = (c .before .before .before) .loop in (
+      search needs,
+      filled-more 0 _ (l .holders) (l .i) _ _ (omega arith) (ap (λ (p : Plant). p .agent) (is c)) (l .inv .1),
+      filled-more 0 _ (l .flags) (l .i) _ _ (omega arith) (ap (λ (p : Plant). p .inflexible) (is c)) (l .inv .2),
+      filled-more 0 _ (l .offers) (l .i) _ _ (omega arith) (ap (λ (p : Plant). p .price) (is c)) (l .inv .3),
+      filled-more 0 _ (l .available) (l .i) _ _ (omega arith) (ap (λ (p : Plant). p .availability) (is c)) (l .inv .4),
+    )
+
+returns : tie.Need-returns Inv-loop μ-loop
+returns c =
+    let e : (c .before) .loop .i ≡ (c .before .before .before .before .before .before .before .before) .args .c .plants = omega arith in
+    let l = (c .before) .loop .inv in
+    (rw e at (l .1), rw e at (l .2), rw e at (l .3), rw e at (l .4))
+
+pub columns-spec : {M : Type 1} → statement M
+columns-spec =
+    tie.close
+    (tie.spec Inv-loop μ-loop add-start loop-holds add-row-at (λ c κs. search needs) (λ c κs. search needs)
+    (λ c. search needs) (λ c. search needs) (λ c. search needs) (λ c. search needs) (λ c. search needs)
+    (λ c. search needs) (λ c. search needs) (λ c. search needs) (λ c. search needs) (λ c. search needs) loop-again
+    (λ c. search needs) (λ c. search needs) (λ c. search needs) (λ c. search needs) returns)

@@ -1,0 +1,84 @@
+-- What the parts of a settlement hand on to each other. Assumes nothing.
+use Prim.Native.Nat.{ℕ, _+_, _-_, _*_, _/_, _%_, _≤_, _<_}
+use mathlib.Core.Bool.{Bool, cond, _&&_}
+use mathlib.Core.List.{List, [], _∷_}
+use mathlib.Core.Path.{_≡_}
+use lib.Dec.{leb}
+use lib.IntN.{ℤ}
+use lib.ListN.{length}
+use Rattle.sums.specs.Sums.{sum, keyed}
+use Rattle.sums.specs.Lists.{at, Filled}
+use Rattle.refusals.specs.Refusals.{uncovered, noRoom, refusedUnless, firstOf}
+use Rattle.refusals.specs.declared.Refusal.{Refusal}
+use Rattle.refusals.specs.declared.Verdict.{Verdict}
+use Rattle.rows.specs.Limits.{mostAgents, mostContracts, mostEnergy}
+use Rattle.rows.specs.Rows.{isRetailer}
+use Rattle.balance.specs.Balances.{zeros}
+use Rattle.hour.specs.Sheet.{Sheet, agents, plants, contracts}
+use Rattle.hour.specs.Balance.{demands, hourDemand}
+use Rattle.hour.specs.Lines.{scheduled, price, amount, contracted, moneyOf, cellOf}
+use Rattle.hour.specs.declared.Summary.{Summary}
+
+-- ---- sums by agent
+pub record Countable (keys values : List ℕ) : Type 0 where
+  pub few : length keys ≤ mostContracts
+  pub long : length keys ≤ length values
+  pub agent : (j : ℕ) → j < length keys → at keys j < mostAgents
+  pub value : (j : ℕ) → j < length keys → at values j ≤ mostEnergy
+
+abbrev pub Tallied : (keys values sums : List ℕ) → Type 0
+Tallied keys values sums = (a : ℕ) → a < mostAgents → at sums a ≡ keyed (at keys) (at values) (length keys) a
+
+-- ---- an agent's line, from its kind and what it has
+abbrev pub buys : (kind own import contracted : ℕ) → ℕ
+buys kind own import contracted = cond (isRetailer kind) (own - contracted) (contracted - own + import)
+
+abbrev pub sells : (kind own contracted : ℕ) → ℕ
+sells kind own contracted = cond (isRetailer kind) (contracted - own) (own - contracted)
+
+-- cell k of the figures, and the money of agent a, from the columns of all agents
+abbrev pub lineCell : (kinds shares own imports contracted : List ℕ) → ℕ → ℕ
+lineCell ks ss os is cs k =
+    cellOf (at ss) (at os) (at is) (at cs) (λ a. buys (at ks a) (at os a) (at is a) (at cs a)) (λ a. sells (at ks a) (at os a) (at cs a)) (k % 6) (k / 6)
+
+abbrev pub lineMoney : (kinds own imports contracted : List ℕ) → ℕ → ℕ → ℤ
+lineMoney ks os is cs price a =
+    moneyOf (sells (at ks a) (at os a) (at cs a)) (buys (at ks a) (at os a) (at is a) (at cs a)) price
+
+-- ---- a refusal, with price, demand and losses 0
+abbrev pub turnedAway : Refusal → Summary
+turnedAway r = record { number = r .number; place = r .place; price = 0; demand = 0; losses = 0 }
+
+-- ---- refusals 10 and 11 behind those of the balance
+abbrev pub roomy : (agents plants contracts figures money schedule amounts : ℕ) → Bool
+roomy n p q f m s t = leb (6 * n) f && leb n m && leb p s && leb q t
+
+abbrev pub judged : Verdict → (demand offered : ℕ) → Bool → Verdict
+judged v d o room = firstOf (v ∷ refusedUnless (leb d o) uncovered 0 ∷ refusedUnless room noRoom 0 ∷ [])
+
+-- ---- the plants of the sheet h
+
+-- the demand is the hour's, the plants cover it, and the lent list has a cell for each
+pub record Covered (h : Sheet) (d room : ℕ) : Type 0 where
+  pub demand : d ≡ hourDemand h
+  pub enough : hourDemand h ≤ sum (plants h) (at (h .available))
+  pub fits : plants h ≤ room
+
+-- the price, what each agent made, and the schedule
+pub record Generates (h : Sheet) (x : ℕ) (ms before after : List ℕ) : Type 0 where
+  pub price : x ≡ price h
+  pub made : (a : ℕ) → a < mostAgents → at ms a ≡ keyed (at (h .holders)) (scheduled h) (plants h) a
+  pub schedule : Filled 0 before after (plants h) (scheduled h)
+
+-- ---- the contracts of the sheet h
+
+-- the agents' kinds and commercial demands, and a cell for each contract
+pub record Demanding (h : Sheet) (ks ds : List ℕ) (room : ℕ) : Type 0 where
+  pub kinds : Filled 0 zeros ks (agents h) (at (h .kinds))
+  pub demands : ds ≡ demands h
+  pub fits : contracts h ≤ room
+
+-- what each agent holds under contract, and the amounts
+pub record Agrees (h : Sheet) (cs before after : List ℕ) : Type 0 where
+  pub contracted : Filled 0 zeros cs (agents h) (contracted h)
+  pub amounts : Filled 0 before after (contracts h) (amount h)
