@@ -1,0 +1,87 @@
+-- WHAT THE DESK MAY RELY ON, of every string of bytes and lent lists of every length.
+--
+-- `Settled bytes before after r` is the promise of `settle`: for the bytes it returns the summary r, and the four lent lists, `before`
+-- at entry, are `after` at exit. Agents, plants and contracts are those of the bytes. Assumes nothing.
+use Prim.Native.Nat.{ℕ, _≤_, _<_}
+use mathlib.Core.List.{List}
+use mathlib.Core.Logic.{_↔_, _⊎_}
+use mathlib.Core.Path.{_≡_, _∙_, sym}
+use lib.IntN.{pos}
+use Rattle.sums.specs.Sums.{sum, pick}
+use Rattle.sums.proofs.Fill.{filled-unique}
+use Rattle.hour.specs.Balance.{hourDemand}
+use Rattle.hour.specs.Signed.{signedSum}
+use Rattle.hour.specs.Answer.{Lent}
+use Rattle.hour.specs.declared.Summary.{Summary}
+use Rattle.hour.proofs.Verdicts.{Roomy}
+use Rattle.settle.specs.Settled.{hourOf, Settled}
+use Rattle.duties.specs.Result.{agentsOf, contractsOf, isRetailer, isGenerator, generatedIn, PossibleFor, costOf, Passes, Untouched, shareIn, contractedIn, boughtIn, soldIn, moneyIn, scheduleIn, amountIn}
+use Rattle.duties.proofs.Steps.{Hour, number-none, list-possible, list-cheapest, list-balanced, demand-generated, list-shares, list-buyers, list-sellers, list-money}
+use Rattle.duties.proofs.Stages.{number-tells, refused-leaves, ten-tells, the-hour}
+
+-- For one string of bytes and the same lists at entry there is one outcome.
+pub one-outcome : (bytes : List ℕ) (before x y : Lent) (q r : Summary) → Settled bytes before x q → Settled bytes before y r
+    → (q ≡ r) × (x .figures ≡ y .figures) × (x .money ≡ y .money) × (x .schedule ≡ y .schedule) × (x .amounts ≡ y .amounts)
+one-outcome bytes before x y q r h k = (
+  h .answered ∙ sym (k .answered),
+  filled-unique 0 _ _ _ _ _ (h .figures) (k .figures),
+  filled-unique (pos 0) _ _ _ _ _ (h .money) (k .money),
+  filled-unique 0 _ _ _ _ _ (h .schedule) (k .schedule),
+  filled-unique 0 _ _ _ _ _ (h .amounts) (k .amounts),
+)
+
+module _ (bytes : List ℕ) (before after : Lent) (r : Summary) (done : Settled bytes before after r) where
+  -- The bytes pass refusals 1 to 9 exactly if the number returned is 0 or above 9.
+  pub passes-exactly : ((r .number ≡ 0) ⊎ (9 < r .number)) ↔ Passes bytes
+  passes-exactly = number-tells bytes done
+
+  -- A refusal returns a number and a place, with price, demand and losses 0, and leaves the lent lists as they were.
+  pub refused-untouched : (r .number ≡ 0 → ⊥) → Untouched before after r
+  refused-untouched = refused-leaves bytes done
+
+  -- FOR EVERY SHEET THAT PASSES REFUSALS 1 TO 9:
+  module _ (passes : Passes bytes) where
+    -- 1. Refusal 10 is given exactly if no schedule is possible for the hour's demand.
+    pub ten-exactly : (r .number ≡ 10) ↔ ((q : ℕ → ℕ) → PossibleFor bytes (hourDemand (hourOf bytes)) q → ⊥)
+    ten-exactly = ten-tells bytes done passes
+
+    -- OTHERWISE, GIVEN ROOM:
+    module _ (room : Roomy (hourOf bytes) before) (otherwise : r .number ≡ 10 → ⊥) where
+      hour : Hour bytes before after r
+      hour = the-hour bytes done passes room otherwise
+
+      -- The hour is settled.
+      pub settled : r .number ≡ 0
+      settled = number-none hour
+
+      -- 2. The schedule in the lent list is possible for the demand returned.
+      pub possible : PossibleFor bytes (r .demand) (scheduleIn after)
+      possible = list-possible hour
+
+      -- No possible schedule costs less at the offer prices, whatever its numbers.
+      pub cheapest : (q : ℕ → ℕ) → PossibleFor bytes (r .demand) q → costOf bytes (scheduleIn after) ≤ costOf bytes q
+      cheapest = list-cheapest hour
+
+      -- 3. The kWh bought over all agents equal the kWh sold.
+      pub bought-is-sold : sum (agentsOf bytes) (boughtIn after) ≡ sum (agentsOf bytes) (soldIn after)
+      bought-is-sold = list-balanced hour
+
+      -- 4. The demand returned equals the sum of generator exports.
+      pub demand-is-generated : r .demand ≡ generatedIn bytes
+      demand-is-generated = demand-generated hour
+
+      -- Loss shares sum to the losses returned.
+      pub shares-are-losses : sum (agentsOf bytes) (shareIn after) ≡ r .losses
+      shares-are-losses = list-shares hour
+
+      -- The amounts contracted, summed by buyers and by sellers, are equal:
+      pub buyers-are-sellers : sum (agentsOf bytes) (λ a. pick (isRetailer bytes a) (contractedIn after a)) ≡ sum (agentsOf bytes) (λ a. pick (isGenerator bytes a) (contractedIn after a))
+      buyers-are-sellers = list-buyers hour ∙ sym (list-sellers hour)
+
+      -- both are the sum of the amounts in the lent list.
+      pub buyers-are-amounts : sum (agentsOf bytes) (λ a. pick (isRetailer bytes a) (contractedIn after a)) ≡ sum (contractsOf bytes) (amountIn after)
+      buyers-are-amounts = list-buyers hour
+
+      -- The money over all agents sums to 0.
+      pub money-is-none : signedSum (agentsOf bytes) (moneyIn after) ≡ pos 0
+      money-is-none = list-money hour

@@ -1,0 +1,81 @@
+-- Words for the duties: the hour that the bytes tell, and what settling hands back in the lent lists. Assumes nothing.
+use Prim.Native.Nat.{ℕ, _+_, _*_}
+use mathlib.Core.Bool.{Bool, not}
+use mathlib.Core.List.{List}
+use mathlib.Core.Path.{_≡_}
+use lib.IntN.{ℤ, pos}
+use lib.ListN.{getD}
+use Rattle.sums.specs.Lists.{at}
+use Rattle.refusals.specs.declared.Verdict.{Verdict}
+use Rattle.merit.specs.Merit.{Possible, none, cost}
+use Rattle.sheet.specs.Reading.{readVerdict}
+use Rattle.hour.specs.Sheet.{agents, plants, contracts, retails}
+use Rattle.hour.specs.Balance.{generated}
+use Rattle.hour.specs.Answer.{Lent, balanceVerdict}
+use Rattle.hour.specs.declared.Summary.{Summary}
+use Rattle.settle.specs.Settled.{hourOf}
+
+-- ---- the hour that the bytes tell
+abbrev pub agentsOf : List ℕ → ℕ
+agentsOf bytes = agents (hourOf bytes)
+
+abbrev pub plantsOf : List ℕ → ℕ
+plantsOf bytes = plants (hourOf bytes)
+
+abbrev pub contractsOf : List ℕ → ℕ
+contractsOf bytes = contracts (hourOf bytes)
+
+abbrev pub isRetailer : List ℕ → ℕ → Bool
+isRetailer bytes a = retails (hourOf bytes) a
+
+abbrev pub isGenerator : List ℕ → ℕ → Bool
+isGenerator bytes a = not (retails (hourOf bytes) a)
+
+-- the sum of generator exports, over the boundary rows of generators
+abbrev pub generatedIn : List ℕ → ℕ
+generatedIn bytes = generated (hourOf bytes)
+
+-- A schedule is possible if each plant has a whole number of kWh from zero to its availability and they sum to the demand d
+abbrev pub PossibleFor : List ℕ → (d : ℕ) → (ℕ → ℕ) → Type 0
+PossibleFor bytes d q = Possible none (at (hourOf bytes .available)) (plantsOf bytes) d q
+
+-- what a schedule costs at the offer prices
+abbrev pub costOf : List ℕ → (ℕ → ℕ) → ℕ
+costOf bytes q = cost (at (hourOf bytes .offers)) (plantsOf bytes) q
+
+-- the bytes pass refusals 1 to 9
+pub record Passes (bytes : List ℕ) : Type 0 where
+  pub read : readVerdict bytes ≡ Verdict.Fine
+  pub balance : balanceVerdict (hourOf bytes) ≡ Verdict.Fine
+
+-- ---- the lent lists by agent, plant and contract
+abbrev pub shareIn : Lent → ℕ → ℕ
+shareIn l a = at (l .figures) (6 * a)
+
+abbrev pub contractedIn : Lent → ℕ → ℕ
+contractedIn l a = at (l .figures) (6 * a + 3)
+
+abbrev pub boughtIn : Lent → ℕ → ℕ
+boughtIn l a = at (l .figures) (6 * a + 4)
+
+abbrev pub soldIn : Lent → ℕ → ℕ
+soldIn l a = at (l .figures) (6 * a + 5)
+
+abbrev pub moneyIn : Lent → ℕ → ℤ
+moneyIn l a = getD (l .money) a (pos 0)
+
+abbrev pub scheduleIn : Lent → ℕ → ℕ
+scheduleIn l i = at (l .schedule) i
+
+abbrev pub amountIn : Lent → ℕ → ℕ
+amountIn l j = at (l .amounts) j
+
+-- nothing is returned but a number and a place, and the lists are as they were
+pub record Untouched (before after : Lent) (r : Summary) : Type 0 where
+  pub price : r .price ≡ 0
+  pub demand : r .demand ≡ 0
+  pub losses : r .losses ≡ 0
+  pub figures : after .figures ≡ before .figures
+  pub money : after .money ≡ before .money
+  pub schedule : after .schedule ≡ before .schedule
+  pub amounts : after .amounts ≡ before .amounts

@@ -1,0 +1,1 @@
+// What the desk may rely on of a settled hour, as theorems: no code stands here.
