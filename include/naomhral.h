@@ -1,0 +1,127 @@
+/* Naomhral: one hour of the Colombian wholesale electricity market, settled by a proved library.
+ *
+ * Make the library in the repository's top folder, then link it:
+ *
+ *     rt staticlib capi
+ *     cc -Iinclude your.c target/staticlib/libcapi.a
+ *
+ * It is for x86-64 Linux. It keeps nothing between calls, takes no memory of its own but the stack, and may be called from several
+ * threads at once, each with lists of its own.
+ *
+ * A list is lent by the place of its first cell and the count of its cells (bytes, for lists of bytes). The place is not NULL, even
+ * for a list of no cells, and is aligned as C asks of the cell's type. A list that is written (not const) must not overlap any
+ * other list of the same call, and nothing else, such as another thread, may change a lent list during the call. The caller sees
+ * to it that each list really has as many cells as it says: nothing in the library can test that.
+ *
+ * Every function returns the refusal's number, 0 if there is none. docs/USING.md has the numbers, docs/FORMAT.md the sheet. A
+ * refusal leaves the lent lists as they were, and cells past those needed keep their old values. Where a function has an answer
+ * list, an answer shorter than stated is refused with 11 before all else, and then no cell of any list changes, the answer's own
+ * among them.
+ */
+#ifndef NAOMHRAL_H
+#define NAOMHRAL_H
+
+#include <stddef.h>
+#include <stdint.h>
+
+/* Sizes that suffice for every sheet. */
+#define NAOMHRAL_SHEET_MOST 10272 /* bytes of the longest sheet */
+#define NAOMHRAL_FIGURES_MOST 384 /* cells: six for each of 64 agents */
+#define NAOMHRAL_MONEY_MOST 64 /* cells: one for each of 64 agents */
+#define NAOMHRAL_SCHEDULE_MOST 64 /* cells: one for each of 64 plants */
+#define NAOMHRAL_AMOUNTS_MOST 256 /* cells: one for each of 256 contracts */
+#define NAOMHRAL_PAGE_MOST 5120 /* bytes: no page is longer */
+#define NAOMHRAL_WEIGHTS_MOST 256 /* weights that sharing takes */
+
+/* The cells of the answers. */
+#define NAOMHRAL_SUMMARY 5
+#define NAOMHRAL_READ_ANSWER 6
+#define NAOMHRAL_WRITE_ANSWER 3
+#define NAOMHRAL_PAGE_ANSWER 3
+
+/* The refusals. */
+enum {
+    NAOMHRAL_SETTLED = 0,
+    NAOMHRAL_BAD_LENGTH = 1,
+    NAOMHRAL_BAD_LAYOUT = 2,
+    NAOMHRAL_BAD_AGENT = 3,
+    NAOMHRAL_BAD_BOUNDARY = 4,
+    NAOMHRAL_BAD_PLANT = 5,
+    NAOMHRAL_BAD_CONTRACT = 6,
+    NAOMHRAL_BAD_EXPORTS = 7,
+    NAOMHRAL_BAD_GAIN = 8,
+    NAOMHRAL_UNSHARED = 9,
+    NAOMHRAL_UNCOVERED = 10,
+    NAOMHRAL_NO_ROOM = 11,
+    NAOMHRAL_NOT_THERE = 12
+};
+
+#ifdef __cplusplus
+extern "C" {
+#endif
+
+/* Settles an hour. Refusals 1 to 11. */
+uint32_t naomhral_settle(
+    const uint8_t *sheet, /* the sheet's bytes */
+    size_t sheet_length, /* how many */
+    uint32_t *figures, /* six cells an agent: loss share, own energy, generator import, contracted, bought, sold; kWh */
+    size_t figures_length, /* at least 6 times the agents */
+    int64_t *money, /* one cell an agent, centavos: above 0 is owed to the agent, below 0 by it */
+    size_t money_length, /* at least the agents */
+    uint32_t *schedule, /* one cell a plant, kWh */
+    size_t schedule_length, /* at least the plants */
+    uint32_t *amounts, /* one cell a contract, kWh */
+    size_t amounts_length, /* at least the contracts */
+    uint32_t *summary, /* number, place, price (centavos per kWh), demand and losses (kWh); the last three are 0 if refused */
+    size_t summary_length /* at least 5 */
+);
+
+/* Reads a sheet and counts its rows. Refusals 1 to 6. */
+uint32_t naomhral_read(
+    const uint8_t *sheet, /* the sheet's bytes */
+    size_t sheet_length, /* how many */
+    uint32_t *answer, /* number, place, then the counts of agents, boundaries, plants and contracts, 0 if refused */
+    size_t answer_length /* at least 6 */
+);
+
+/* Writes a sheet from one list of numbers a section, the named fields row by row. Refusals 2 to 6, then 11. */
+uint32_t naomhral_write(
+    const uint32_t *agents, /* kind of each agent */
+    size_t agents_length, /* the agents, at most 64 */
+    const uint32_t *boundaries, /* agent, factor, import, export of each boundary */
+    size_t boundaries_length, /* 4 times the boundaries, at most 256 of them */
+    const uint32_t *plants, /* agent, inflexible (0 or 1), price, availability of each plant */
+    size_t plants_length, /* 4 times the plants, at most 64 of them */
+    const uint32_t *contracts, /* seller, buyer, kind, price, quantity of each contract */
+    size_t contracts_length, /* 5 times the contracts, at most 256 of them */
+    uint8_t *out, /* the sheet */
+    size_t out_length, /* at least 32 and 16 times all rows */
+    uint32_t *answer, /* number, place, length written (0 if refused) */
+    size_t answer_length /* at least 3 */
+);
+
+/* Shares an amount over weights by the sharing rule. Refusals 2 (more than 256 weights) and 11; the place is always 0. */
+uint32_t naomhral_share(
+    uint32_t amount, /* what is shared */
+    const uint32_t *weights, /* the weights */
+    size_t weights_length, /* how many, at most 256 */
+    uint32_t *out, /* one share a weight */
+    size_t out_length /* at least as many as the weights */
+);
+
+/* Writes the printed page of a sheet: the line `hour ..` and a line an agent, or the one line `refused N P`. A refused sheet's
+ * page is a page, so 0 means that one was written; 11 means that it has no room, and then no byte is written. */
+uint32_t naomhral_page(
+    const uint8_t *sheet, /* the sheet's bytes */
+    size_t sheet_length, /* how many */
+    uint8_t *out, /* the page; no 0 byte ends it */
+    size_t out_length, /* NAOMHRAL_PAGE_MOST is always enough */
+    uint32_t *answer, /* number, place, length written (0 if refused) */
+    size_t answer_length /* at least 3 */
+);
+
+#ifdef __cplusplus
+}
+#endif
+
+#endif

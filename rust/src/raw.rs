@@ -1,0 +1,47 @@
+//! The functions of the proved library as they stand in `include/naomhral.h`, which says what a caller owes. A list passes as its
+//! first cell's place and its length.
+
+extern "C" {
+    pub fn naomhral_settle(
+        sheet: *const u8,
+        sheet_length: usize,
+        figures: *mut u32,
+        figures_length: usize,
+        money: *mut i64,
+        money_length: usize,
+        schedule: *mut u32,
+        schedule_length: usize,
+        amounts: *mut u32,
+        amounts_length: usize,
+        summary: *mut u32,
+        summary_length: usize,
+    ) -> u32;
+
+    pub fn naomhral_read(sheet: *const u8, sheet_length: usize, answer: *mut u32, answer_length: usize) -> u32;
+
+    pub fn naomhral_write(
+        agents: *const u32,
+        agents_length: usize,
+        boundaries: *const u32,
+        boundaries_length: usize,
+        plants: *const u32,
+        plants_length: usize,
+        contracts: *const u32,
+        contracts_length: usize,
+        out: *mut u8,
+        out_length: usize,
+        answer: *mut u32,
+        answer_length: usize,
+    ) -> u32;
+
+    pub fn naomhral_share(amount: u32, weights: *const u32, weights_length: usize, out: *mut u32, out_length: usize) -> u32;
+
+    pub fn naomhral_page(
+        sheet: *const u8,
+        sheet_length: usize,
+        out: *mut u8,
+        out_length: usize,
+        answer: *mut u32,
+        answer_length: usize,
+    ) -> u32;
+}

@@ -1,0 +1,173 @@
+//! Sheets for the tests and the benchmark, made from rows. Nothing here judges a row.
+
+/// The named fields of a sheet's rows, in byte order.
+#[derive(Clone, Debug, Default)]
+pub struct Rows {
+    /// kind
+    pub agents: Vec<u32>,
+    /// agent, factor, import, export
+    pub boundaries: Vec<[u32; 4]>,
+    /// agent, inflexible, price, availability
+    pub plants: Vec<[u32; 4]>,
+    /// seller, buyer, kind, price, quantity
+    pub contracts: Vec<[u32; 5]>,
+}
+
+impl Rows {
+    /// The sheet with these rows; of fields that have two bytes the lower two.
+    pub fn bytes(&self) -> Vec<u8> {
+        let mut out = vec![];
+        let mut put = |words: [u32; 4]| words.iter().for_each(|w| out.extend(w.to_le_bytes()));
+        let pair = |low: u32, high: u32| (low & 0xffff) | high << 16;
+        for &kind in &self.agents {
+            put([kind, 0, 0, 0]);
+        }
+        for &[agent, factor, import, export] in &self.boundaries {
+            put([pair(agent, factor), 0, import, export]);
+        }
+        for &[agent, inflexible, price, availability] in &self.plants {
+            put([pair(agent, inflexible), 0, price, availability]);
+        }
+        for &[seller, buyer, kind, price, quantity] in &self.contracts {
+            put([pair(seller, buyer), kind, price, quantity]);
+        }
+        let [n0, n1, n2, n3] = self.counts().map(|n| n as u32);
+        let back = |n: u32| 16 * n;
+        put([back(n0 + n1 + n2 + n3), n0, back(n1 + n2 + n3), n1]);
+        put([back(n2 + n3), n2, back(n3), n3]);
+        out
+    }
+
+    pub fn counts(&self) -> [usize; 4] {
+        [self.agents.len(), self.boundaries.len(), self.plants.len(), self.contracts.len()]
+    }
+
+    /// One list a section, as writing takes them.
+    pub fn lists(&self) -> [Vec<u32>; 4] {
+        [self.agents.clone(), self.boundaries.concat(), self.plants.concat(), self.contracts.concat()]
+    }
+}
+
+/// A small generator of numbers (splitmix64): the same seed gives the same numbers everywhere.
+pub struct Random(pub u64);
+
+impl Random {
+    pub fn draw(&mut self) -> u64 {
+        self.0 = self.0.wrapping_add(0x9e37_79b9_7f4a_7c15);
+        let z = (self.0 ^ (self.0 >> 30)).wrapping_mul(0xbf58_476d_1ce4_e5b9);
+        let z = (z ^ (z >> 27)).wrapping_mul(0x94d0_49bb_1331_11eb);
+        z ^ (z >> 31)
+    }
+
+    /// One of 0 to n - 1.
+    pub fn below(&mut self, n: u64) -> u64 {
+        ((self.draw() as u128 * n as u128) >> 64) as u64
+    }
+
+    /// One of low to high.
+    pub fn range(&mut self, low: u32, high: u32) -> u32 {
+        low + self.below((high - low) as u64 + 1) as u32
+    }
+
+    /// True once in n times.
+    pub fn once_in(&mut self, n: u64) -> bool {
+        self.below(n) == 0
+    }
+
+    pub fn pick<T: Copy>(&mut self, of: &[T]) -> T {
+        of[self.below(of.len() as u64) as usize]
+    }
+}
+
+/// 'One hour in full' of document 01.
+pub fn worked() -> Rows {
+    Rows {
+        agents: vec![2, 1, 1, 2],
+        boundaries: vec![[0, 0, 0, 600], [3, 0, 10, 410], [1, 0, 500, 0], [2, 1000, 400, 0]],
+        plants: vec![[0, 0, 5000, 700], [3, 0, 8000, 500], [0, 1, 9000, 100]],
+        contracts: vec![[0, 1, 1, 6000, 400], [3, 1, 3, 7000, 100], [0, 1, 3, 7000, 50], [3, 2, 2, 6500, 500]],
+    }
+}
+
+/// The worked hour with a retailer as the seller of contract 2: refused with 6.
+pub fn march() -> Rows {
+    let mut rows = worked();
+    rows.contracts[2][0] = 1;
+    rows
+}
+
+/// A settled sheet of any size. Every fourth agent is a generator; the boundaries and the contracts go round the agents. Retailers
+/// import 40,000 to 60,000 a row at factors 0 to 400, and the generators export all that and 2 in 100 more, in equal parts. Plant
+/// prices are 8 values and contract prices 4, so that most prices are shared by several rows; every eighth plant is inflexible. The
+/// availabilities are 1.5 times the demand in all, and the contracts of a retailer sum to about 1.5 times its demand, kinds 1, 2 and
+/// 3 in turn, so that the demand falls inside them and a price group is shared.
+pub fn market(agents: usize, boundaries: usize, plants: usize, contracts: usize) -> Rows {
+    let mut random = Random(1995);
+    let generators: Vec<u32> = (0..agents as u32).filter(|a| a % 4 == 0).collect();
+    let retailers: Vec<u32> = (0..agents as u32).filter(|a| a % 4 != 0).collect();
+    let kinds = (0..agents).map(|a| if a % 4 == 0 { 2 } else { 1 }).collect();
+    let mut rows = Rows { agents: kinds, ..Rows::default() };
+
+    let mut consumed = vec![0u64; agents];
+    for j in 0..boundaries {
+        let agent = (j % agents) as u32;
+        if agent % 4 == 0 {
+            rows.boundaries.push([agent, 0, 0, 0]);
+        } else {
+            let (factor, import) = (random.range(0, 400), random.range(40_000, 60_000));
+            consumed[agent as usize] += (import as u64 * (10_000 + factor as u64) + 5_000) / 10_000;
+            rows.boundaries.push([agent, factor, import, 0]);
+        }
+    }
+    let demand = consumed.iter().sum::<u64>() * 102 / 100;
+    let meters = rows.boundaries.iter().filter(|b| b[0] % 4 == 0).count() as u64;
+    let mut left = demand;
+    let mut unread = meters;
+    for row in rows.boundaries.iter_mut().filter(|b| b[0] % 4 == 0) {
+        row[3] = (left / unread) as u32;
+        left -= left / unread;
+        unread -= 1;
+    }
+
+    let each = (demand * 3 / 2 / plants as u64) as u32;
+    for i in 0..plants {
+        let price = 5_000 + 1_000 * random.range(0, 7);
+        let inflexible = (i % 8 == 7) as u32;
+        rows.plants.push([generators[i % generators.len()], inflexible, price, random.range(each, each + each / 50)]);
+    }
+
+    for i in 0..contracts {
+        let buyer = retailers[i % retailers.len()];
+        let seller = random.pick(&generators);
+        let held = contracts / retailers.len();
+        let part = (consumed[buyer as usize] * 3 / 2 / held as u64) as u32;
+        let turn = (i / retailers.len() + i) % 3;
+        let price = 6_000 + 500 * random.range(0, 3);
+        rows.contracts.push([seller, buyer, turn as u32 + 1, price, random.range(part * 3 / 4, part * 5 / 4)]);
+    }
+    rows
+}
+
+/// 20 agents, 60 boundaries, 20 plants and 60 contracts.
+pub fn middling() -> Rows {
+    market(20, 60, 20, 60)
+}
+
+/// 64 agents, 256 boundaries, 64 plants and 256 contracts.
+pub fn largest() -> Rows {
+    market(64, 256, 64, 256)
+}
+
+/// The largest sheet with one buyer for all 256 contracts, all of kind 3 at two prices: 128 are in full and 128 share.
+pub fn one_buyer() -> Rows {
+    let mut rows = largest();
+    let demand = {
+        let own = rows.boundaries.iter().filter(|b| b[0] == 1);
+        own.map(|b| b[2]).sum::<u32>()
+    };
+    let each = demand / 192;
+    for (i, row) in rows.contracts.iter_mut().enumerate() {
+        *row = [row[0], 1, 3, 6_000 + 500 * (i as u32 % 2), each - i as u32 % 7];
+    }
+    rows
+}
