@@ -8,22 +8,19 @@ use lib.Dec.{ltb}
 use lib.ListN.{length, take}
 use Rattle.sums.specs.Sums.{sum, first, pick}
 use Rattle.sums.specs.Lists.{at, Filled}
-use Rattle.sums.proofs.Fill.{filled-none, filled-count, filled-by, filled-front, filled-unique}
-use Rattle.refusals.specs.Refusals.{cells}
-use Rattle.refusals.specs.declared.Refusal.{Refusal}
+use Rattle.sums.proofs.Fill.{filled-count, filled-by, filled-front}
 use Rattle.refusals.specs.declared.Verdict.{Verdict}
 use Rattle.share.specs.Share.{shareOf, Shared}
 use Rattle.share.proofs.Laws.{share-fine}
 use Rattle.rows.specs.Limits.{mostAgents}
-use Rattle.sums.proofs.Sums.{sum-eq}
+use Rattle.sums.proofs.Sums.{sum-eq, sum-add}
 use Rattle.sums.proofs.First.{first-eq}
 use Rattle.rows.specs.Rows.{isRetailer}
 use Rattle.hour.specs.Sheet.{Sheet, agents, retails}
 use Rattle.hour.specs.Balance.{imported, exported, consumption, consumed, consumptions, ownImport, entering, leaving, losses, lossShare, commercial, hourDemand}
-use Rattle.hour.specs.Answer.{firstOver, balanceVerdict}
+use Rattle.hour.specs.Answer.{firstOver}
 use Rattle.hour.proofs.Demand.{weights-long}
-use Rattle.balance.specs.Balances.{zeros, nothing, Balances, Read}
-use Rattle.balance.specs.declared.Balance.{Balance}
+use Rattle.balance.specs.Balances.{zeros, Read}
 
 module _ (h : Sheet) (n : ℕ) (kinds imports exports used : List ℕ) (r : Read h n kinds imports exports used) where
   pub over-is : first n (λ a. isRetailer (at kinds a) && ltb (at imports a) (at exports a)) ≡ firstOver h
@@ -80,35 +77,6 @@ module _ (h : Sheet) where
     unfolding consumptions
     weights-are l few f = rw e (filled-front 0 zeros l n (consumption h) few f)
 
-    pub demand-is : (l : List ℕ) → Filled 0 zeros l n (λ a. commercial h a + ownImport h a) → sum n (at l) ≡ hourDemand h
+    pub demand-is : sum n (commercial h) + sum n (ownImport h) ≡ hourDemand h
     unfolding hourDemand
-    demand-is l f = rw e (sum-eq n _ _ (f .done))
-
-  -- a refused balance
-  pub nothing-is : (r : Refusal) → balanceVerdict h ≡ Verdict.Refused r → Balances h (nothing (balanceVerdict h))
-  nothing-is r e =
-      let none : (k : ℕ) → 0 ≡ cells (balanceVerdict h) k = λ k. rw e in
-      record {
-        answer = refl;
-        kinds = filled-count 0 _ _ 0 _ _ (none _) (filled-none 0 _ _);
-        shares = filled-count 0 _ _ 0 _ _ (none _) (filled-none 0 _ _);
-        commercial = filled-count 0 _ _ 0 _ _ (none _) (filled-none 0 _ _);
-        imports = filled-count 0 _ _ 0 _ _ (none _) (filled-none 0 _ _);
-        losses = none _;
-        demand = none _;
-      }
-
--- ---- two outcomes that meet the promise are one
-pub one-balance : {h : Sheet} {q r : Balance} → Balances h q → Balances h r → q ≡ r
-one-balance {h} {q} {r} x y =
-    same q r (x .answer ∙ sym (y .answer)) (filled-unique 0 _ _ _ _ _ (x .kinds) (y .kinds)) (filled-unique 0 _ _ _ _ _ (x .shares) (y .shares))
-    (filled-unique 0 _ _ _ _ _ (x .commercial) (y .commercial)) (filled-unique 0 _ _ _ _ _ (x .imports) (y .imports))
-    (x .losses ∙ sym (y .losses)) (x .demand ∙ sym (y .demand))
-  where
-    all : Verdict → (kinds shares commercial imports : List ℕ) (losses demand : ℕ) → Balance
-    all v k s c i l d = record { verdict = v; kinds = k; shares = s; commercial = c; imports = i; losses = l; demand = d }
-
-    same : (q r : Balance) → q .verdict ≡ r .verdict → q .kinds ≡ r .kinds → q .shares ≡ r .shares → q .commercial ≡ r .commercial
-        → q .imports ≡ r .imports → q .losses ≡ r .losses → q .demand ≡ r .demand
-        → all (q .verdict) (q .kinds) (q .shares) (q .commercial) (q .imports) (q .losses) (q .demand) ≡ all (r .verdict) (r .kinds) (r .shares) (r .commercial) (r .imports) (r .losses) (r .demand)
-    same q r v k s c i l d = rw (v, k, s, c, i, l, d)
+    demand-is = rw e (sym (sum-add n _ _))

@@ -1,12 +1,15 @@
--- Document 01, 'From readings to commercial demand': what weighing the readings of an accepted sheet answers. Assumes nothing.
+-- Document 01, 'From readings to commercial demand': what weighing the readings of a sheet answers. Assumes nothing.
 use Prim.Native.Nat.{ℕ, _<_}
 use mathlib.Core.List.{List}
 use mathlib.Core.Path.{_≡_}
 use lib.ListN.{replicate}
 use Rattle.rows.specs.Limits.{mostAgents}
 use Rattle.sums.specs.Lists.{at, Filled}
-use Rattle.refusals.specs.Refusals.{cells}
+use Rattle.refusals.specs.Refusals.{orElse, cells}
 use Rattle.refusals.specs.declared.Verdict.{Verdict}
+use Rattle.sheet.specs.Reading.{readVerdict, countsOf}
+use Rattle.sheet.specs.declared.Counts.{Counts}
+use Rattle.columns.specs.Columns.{hourOf}
 use Rattle.hour.specs.Sheet.{Sheet, agents}
 use Rattle.hour.specs.Balance.{imported, exported, consumption, ownImport, losses, lossShare, commercial, hourDemand}
 use Rattle.hour.specs.Answer.{balanceVerdict}
@@ -16,21 +19,47 @@ use Rattle.balance.specs.declared.Balance.{Balance}
 abbrev pub zeros : List ℕ
 zeros = replicate mostAgents 0
 
+-- the counts of a sheet that is fine; none of one that is refused
+abbrev pub noCounts : Counts
+noCounts = record { agents = 0; boundaries = 0; plants = 0; contracts = 0 }
+
+abbrev pub countsIf : Verdict → Counts → Counts
+countsIf Verdict.Fine c = c
+countsIf (Verdict.Refused r) c = noCounts
+
 -- a refused balance
 abbrev pub nothing : Verdict → Balance
 nothing v =
-    record { verdict = v; kinds = zeros; shares = zeros; commercial = zeros; imports = zeros; losses = 0; demand = 0 }
+    record {
+      verdict = v;
+      counts = noCounts;
+      kinds = zeros;
+      shares = zeros;
+      commercial = zeros;
+      imports = zeros;
+      losses = 0;
+      demand = 0;
+    }
 
--- refusals 7 to 9; where it is fine the agents' kinds, loss shares, commercial demands and own imports stand in the first cells, with
--- the losses and the hour's demand; where it is refused all is 0
-pub record Balances (h : Sheet) (r : Balance) : Type 0 where
-  pub answer : r .verdict ≡ balanceVerdict h
-  pub kinds : Filled 0 zeros (r .kinds) (cells (balanceVerdict h) (agents h)) (at (h .kinds))
-  pub shares : Filled 0 zeros (r .shares) (cells (balanceVerdict h) (agents h)) (lossShare h)
-  pub commercial : Filled 0 zeros (r .commercial) (cells (balanceVerdict h) (agents h)) (commercial h)
-  pub imports : Filled 0 zeros (r .imports) (cells (balanceVerdict h) (agents h)) (ownImport h)
-  pub losses : r .losses ≡ cells (balanceVerdict h) (losses h)
-  pub demand : r .demand ≡ cells (balanceVerdict h) (hourDemand h)
+-- by the verdict v of the sheet h with the counts c: where it is fine the agents' kinds, loss shares, commercial demands and own
+-- imports stand in the first cells, with the counts, the losses and the hour's demand; where it is refused all is 0
+pub record Balances (v : Verdict) (c : Counts) (h : Sheet) (r : Balance) : Type 0 where
+  pub answer : r .verdict ≡ v
+  pub counts : r .counts ≡ countsIf v c
+  pub kinds : Filled 0 zeros (r .kinds) (cells v (agents h)) (at (h .kinds))
+  pub shares : Filled 0 zeros (r .shares) (cells v (agents h)) (lossShare h)
+  pub commercial : Filled 0 zeros (r .commercial) (cells v (agents h)) (commercial h)
+  pub imports : Filled 0 zeros (r .imports) (cells v (agents h)) (ownImport h)
+  pub losses : r .losses ≡ cells v (losses h)
+  pub demand : r .demand ≡ cells v (hourDemand h)
+
+-- refusals 1 to 6 are reading's, 7 to 9 the balance's
+unfoldable pub weighVerdict : List ℕ → Verdict
+weighVerdict bytes = orElse (readVerdict bytes) (balanceVerdict (hourOf bytes))
+
+-- the promise of weighing
+abbrev pub Weighed : (bytes : List ℕ) → Balance → Type 0
+Weighed bytes r = Balances (weighVerdict bytes) (countsOf bytes) (hourOf bytes) r
 
 -- what each agent took and delivered, all its rows together
 pub record Metered (h : Sheet) (imports exports : List ℕ) : Type 0 where

@@ -3,6 +3,7 @@ use refusals::Refusal;
 use refusals::Verdict;
 use rows::Agent;
 use sheet::Counts;
+use sheet::Reading;
 ghost use mathlib.Core.Path.{_≡_};
 ghost use mathlib.Core.Bool.{_&&_, _||_, not};
 ghost use Prim.Native.Nat.{ℕ, _+_, _-_, _≤_, _<_};
@@ -19,11 +20,12 @@ ghost use Rattle.columns.specs.Columns.{columnsOf};
 ghost use Rattle.hour.specs.Sheet.{Sheet, agents};
 ghost use Rattle.hour.specs.Balance.{referred};
 ghost use Rattle.hour.specs.Answer.{balanceVerdict};
-ghost use Rattle.balance.specs.Balances.{zeros, nothing, Balances, Metered, Read};
+ghost use Rattle.balance.specs.Balances.{zeros, nothing, Balances, Weighed, Metered, Read};
 
-// A sheet's balance, agent by agent. A refused one is all zeros.
+// A sheet's balance, agent by agent, with the counts that reading gave. A refused one is all zeros.
 pub struct Balance {
     pub verdict: Verdict,
+    pub counts: Counts,
     pub kinds: [u32; 64],
     pub shares: [u32; 64],
     pub commercial: [u32; 64],
@@ -211,6 +213,12 @@ fn turned_away(verdict: Verdict) -> Balance
 {
     Balance {
         verdict,
+        counts: Counts {
+            agents: 0,
+            boundaries: 0,
+            plants: 0,
+            contracts: 0,
+        },
         kinds: [0u32; 64],
         shares: [0u32; 64],
         commercial: [0u32; 64],
@@ -220,10 +228,10 @@ fn turned_away(verdict: Verdict) -> Balance
     }
 }
 
-// Weighs what was taken against what was delivered, on a sheet that reading accepts with these counts.
-pub fn weigh(s: &[u8], c: Counts) -> Balance
+// The balance of a sheet that reading accepts with these counts.
+fn weigh_read(s: &[u8], c: Counts) -> Balance
     requires { ⌜ readOf (now s) ≡ Reading.Accepted c ⌝ }
-    ensures { λ r. ⌜ Balances (columnsOf (now (s .entry)) c) r ⌝ }
+    ensures { λ r. ⌜ Balances (balanceVerdict (columnsOf (now (s .entry)) c)) c (columnsOf (now (s .entry)) c) r ⌝ }
 {
     let n = c.agents;
     let kinds = kinds_of(s, n);
@@ -240,15 +248,25 @@ pub fn weigh(s: &[u8], c: Counts) -> Balance
     share::share(losses, &consumption[..n], &mut shares);
     let commercial = added(&consumption, &shares, n);
     let own = own_imports(&kinds, &imports, n);
-    let needed = added(&commercial, &own, n);
-    let demand = total(&needed, n);
+    let demand = total(&commercial, n) + total(&own, n);
     Balance {
         verdict,
+        counts: c,
         kinds,
         shares,
         commercial,
         imports: own,
         losses,
         demand,
+    }
+}
+
+// Weighs what was taken against what was delivered, of any bytes: reading's refusals come first.
+pub fn weigh(s: &[u8]) -> Balance
+    ensures { λ r. ⌜ Weighed (now (s .entry)) r ⌝ }
+{
+    match sheet::read(s) {
+        Reading::Accepted(c) => weigh_read(s, c),
+        Reading::Refused(why) => turned_away(Verdict::Refused(why)),
     }
 }

@@ -14,9 +14,10 @@ use Rattle.sheet.specs.Reading.{readOf, sheetLength}
 use Rattle.sheet.specs.declared.Counts.{Counts}
 use Rattle.sheet.specs.declared.Reading.{Reading}
 use Rattle.rows.specs.Bytes.{byteOf}
+use Rattle.columns.specs.Columns.{hourOf}
 use Rattle.hour.specs.Answer.{Lent, summaryOf}
 use Rattle.hour.specs.declared.Summary.{Summary}
-use Rattle.settle.specs.Settled.{hourOf, verdictOf, Outcome}
+use Rattle.settle.specs.Settled.{verdictOf, Outcome}
 use Rattle.printing.specs.Page.{printed}
 use Rattle.printing.specs.declared.Printed.{Printed}
 use Rattle.page.specs.Page.{pageText}

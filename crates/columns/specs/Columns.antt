@@ -3,6 +3,7 @@ use Prim.Native.Nat.{ℕ}
 use mathlib.Core.List.{List}
 use Rattle.sums.specs.Lists.{listTo}
 use Rattle.sheet.specs.Asking.{agentAt, boundaryAt, plantAt, contractAt}
+use Rattle.sheet.specs.Reading.{countsOf}
 use Rattle.sheet.specs.declared.Counts.{Counts}
 use Rattle.hour.specs.Sheet.{Sheet}
 
@@ -26,3 +27,7 @@ columnsOf s c =
         quantities = listTo (λ j. contractAt s c j .quantity) (c .contracts);
       };
     }
+
+-- the sheet that the bytes hold
+unfoldable pub hourOf : List ℕ → Sheet
+hourOf bytes = columnsOf bytes (countsOf bytes)

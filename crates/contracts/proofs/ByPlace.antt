@@ -578,12 +578,12 @@ module _ (s : Rows) (ds : List ℕ) (ready : Ready s ds) where
         there j (q, lq, e) = rw (← e) (c .each q lq ∙ given-is amounts q room lq (w .each q lq))
 
   -- ---- the keys before they are put in order
-  module _ (l before : List ℕ) (f : Filled 0 before l n (keyAt (s .buyers) (s .kinds) (s .prices))) where
+  module _ (l : List ℕ) (keys : (j : ℕ) → j < n → at l j ≡ key j) where
     pub keys-rise : Rising 8 n l
     keys-rise = record { less = λ q r h k. omega (arith, low q (omega arith), low r k) }
       where
         low : (j : ℕ) → j < n → at l j % 2 ^ 8 ≡ j
-        low j h = ap (λ (z : ℕ). z % 256) (f .done j h) ∙ row-key-row j h
+        low j h = ap (λ (z : ℕ). z % 256) (keys j h) ∙ row-key-row j h
 
     pub keys-small : (j : ℕ) → j < n → at l j < 2 ^ 36
-    keys-small j h = rw (f .done j h) (key-lt (buyer j) (kindAt j) (priceAt j) j (ready .price j h) (omega (arith, ready .few)) (omega (arith, ready .buyer j h, ready .agents)))
+    keys-small j h = rw (keys j h) (key-lt (buyer j) (kindAt j) (priceAt j) j (ready .price j h) (omega (arith, ready .few)) (omega (arith, ready .buyer j h, ready .agents)))

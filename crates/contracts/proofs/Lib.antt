@@ -6,4 +6,5 @@ pub mod Decode
 pub mod Walks
 pub mod Tagged
 pub mod ByPlace
+pub mod Section
 pub mod Verdicts

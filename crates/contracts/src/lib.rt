@@ -8,99 +8,18 @@ mod order;
 mod walk;
 
 ghost use mathlib.Core.Path.{_≡_};
-ghost use Prim.Native.Nat.{_≤_, _<_};
-ghost use mathlib.Core.Bool.{true};
+ghost use Prim.Native.Nat.{ℕ, _≤_, _<_};
 ghost use lib.Dec.{eqb};
 ghost use lib.ListN.{length};
 ghost use Rattle.sums.specs.Sums.{pick};
 ghost use Rattle.sums.specs.Lists.{at, Filled};
-ghost use Rattle.refusals.specs.Refusals.{refusedUnless, firstBad, badContract};
+ghost use Rattle.refusals.specs.Refusals.{refusedUnless, orElse, noRoom};
 ghost use Rattle.deals.specs.Hour.{hourAmount};
-ghost use Rattle.contracts.specs.Assign.{rowsOf, layoutGood, rowGood, rowVerdict, assignVerdict, Assigned, Ready};
-ghost use Rattle.contracts.specs.Keys.{keyOf, keyAt, rowOf};
+ghost use Rattle.contracts.specs.Assign.{countIn, rowIn, rowsIn, layoutGood, rowGood, rowsVerdict, assignVerdict, Assigned, Ready};
+ghost use Rattle.contracts.specs.Keys.{keyOf, keyIn, rowOf, Keyed};
 ghost use Rattle.contracts.specs.Walk.{Rowed, Scattered};
 
-// ---- whether the lists can be settled
-
-fn row_good(buyer: u32, kind: u32, price: u32, quantity: u32, agents: usize) -> bool
-    ensures { λ r. ⌜ r ≡ rowGood buyer kind price quantity agents ⌝ }
-{
-    ((buyer as usize) < agents)
-        & (((Contract::FIXED <= kind) & (kind <= Contract::DEMANDED))
-            & ((price <= Contract::PRICE) & (quantity <= Contract::QUANTITY)))
-}
-
-fn row_verdict(good: bool, i: usize) -> Verdict
-    requires { ⌜ i < 256 ⌝ }
-    ensures { λ r. ⌜ r ≡ refusedUnless good badContract i ⌝ }
-{
-    if good {
-        return Verdict::Fine;
-    }
-    refusals::refuse(Refusal::CONTRACT, i as u32)
-}
-
-// The first bad row ends it.
-fn rows_verdict(
-    buyers: &[u32],
-    kinds: &[u32],
-    prices: &[u32],
-    quantities: &[u32],
-    demands: &[u32],
-) -> Verdict
-    requires { ⌜ layoutGood (rowsOf (now buyers) (now kinds) (now prices) (now quantities)) (now demands) ≡ true ⌝ }
-    ensures { λ r. ⌜ r ≡ firstBad (rowVerdict (rowsOf (now (buyers .entry)) (now (kinds .entry)) (now (prices .entry)) (now (quantities .entry))) (now (demands .entry))) 0 (length (now (buyers .entry))) ⌝ }
-{
-    let mut i = 0;
-    while i < buyers.len() {
-        let good = row_good(buyers[i], kinds[i], prices[i], quantities[i], demands.len());
-        let v = row_verdict(good, i);
-        let Verdict::Fine = v else {
-            return v;
-        };
-        i += 1;
-    }
-    Verdict::Fine
-}
-
-fn layout_good(
-    buyers: &[u32],
-    kinds: &[u32],
-    prices: &[u32],
-    quantities: &[u32],
-    demands: &[u32],
-) -> bool
-    ensures { λ r. ⌜ r ≡ layoutGood (rowsOf (now (buyers .entry)) (now (kinds .entry)) (now (prices .entry)) (now (quantities .entry))) (now (demands .entry)) ⌝ }
-{
-    let n = buyers.len();
-    ((kinds.len() == n) & ((prices.len() == n) & (quantities.len() == n)))
-        & ((n <= Contract::MOST) & (demands.len() <= Agent::MOST))
-}
-
-fn judge(
-    buyers: &[u32],
-    kinds: &[u32],
-    prices: &[u32],
-    quantities: &[u32],
-    demands: &[u32],
-    out: &[u32],
-) -> Verdict
-    ensures { λ r. ⌜ r ≡ assignVerdict (rowsOf (now (buyers .entry)) (now (kinds .entry)) (now (prices .entry)) (now (quantities .entry))) (now (demands .entry)) (now (out .entry)) ⌝ }
-{
-    if !layout_good(buyers, kinds, prices, quantities, demands) {
-        return refusals::refuse(Refusal::LAYOUT, 0);
-    }
-    let v = rows_verdict(buyers, kinds, prices, quantities, demands);
-    let Verdict::Fine = v else {
-        return v;
-    };
-    if out.len() < buyers.len() {
-        return refusals::refuse(Refusal::ROOM, 0);
-    }
-    Verdict::Fine
-}
-
-// ---- the rows in the order in which they are assigned
+// ---- the key of each row, by which the rows are put in order
 
 // 1 for a row of the kind asked for, 0 for any other.
 fn of_kind(kind: u32, which: u32) -> u64
@@ -119,16 +38,74 @@ fn key_of(buyer: u32, kind: u32, price: u32, row: usize) -> u64
     level * 256 + row as u64
 }
 
-fn fill_keys(buyers: &[u32], kinds: &[u32], prices: &[u32], keys: &mut [u64])
-    requires { ⌜ (length (now buyers) ≤ 256) × (length (now kinds) ≡ length (now buyers)) × (length (now prices) ≡ length (now buyers)) × (length (now buyers) ≤ length (now keys)) ⌝ }
-    ensures { λ _. ⌜ Filled 0 (now (keys .entry)) (now (keys .exit)) (length (now (buyers .entry))) (keyAt (now (buyers .entry)) (now (kinds .entry)) (now (prices .entry))) ⌝ }
+// ---- whether the rows can be assigned
+
+fn row_good(agents: usize, k: Contract) -> bool
+    ensures { λ r. ⌜ r ≡ rowGood agents k ⌝ }
 {
-    let mut j = 0;
-    while j < buyers.len() {
-        keys[j] = key_of(buyers[j], kinds[j], prices[j], j);
-        j += 1;
-    }
+    ((k.buyer as usize) < agents)
+        & (((Contract::FIXED <= k.kind) & (k.kind <= Contract::DEMANDED))
+            & ((k.price <= Contract::PRICE) & (k.quantity <= Contract::QUANTITY)))
 }
+
+// One pass judges each row and takes its key; the first bad row ends it.
+fn read_keys(section: &[u8], agents: usize, keys: &mut [u64]) -> Verdict
+    requires { ⌜ (countIn (now section) ≤ 256) × (countIn (now section) ≤ length (now keys)) ⌝ }
+    ensures { λ r. ⌜ Keyed (rowsVerdict (now (section .entry)) agents) (now (section .entry)) (now (keys .entry)) r (now (keys .exit)) ⌝ }
+{
+    let n = section.len() / 16;
+    let mut i = 0;
+    while i < n {
+        let k = rows::contract_of(rows::row_at(section, i));
+        if !row_good(agents, k) {
+            return refusals::refuse(Refusal::CONTRACT, i as u32);
+        }
+        keys[i] = key_of(k.buyer, k.kind, k.price, i);
+        i += 1;
+    }
+    Verdict::Fine
+}
+
+fn layout_good(section: &[u8], demands: &[u32]) -> bool
+    ensures { λ r. ⌜ r ≡ layoutGood (now (section .entry)) (now (demands .entry)) ⌝ }
+{
+    let n = section.len();
+    (n % 16 == 0) & ((n / 16 <= Contract::MOST) & (demands.len() <= Agent::MOST))
+}
+
+fn room_verdict(fits: bool) -> Verdict
+    ensures { λ r. ⌜ r ≡ refusedUnless fits noRoom 0 ⌝ }
+{
+    if fits {
+        return Verdict::Fine;
+    }
+    refusals::refuse(Refusal::ROOM, 0)
+}
+
+// The first refusal of two.
+fn or_else(v: Verdict, w: Verdict) -> Verdict
+    ensures { λ r. ⌜ r ≡ orElse v w ⌝ }
+{
+    let Verdict::Fine = v else {
+        return v;
+    };
+    w
+}
+
+// A bad row is told before a short list.
+fn judge(section: &[u8], demands: &[u32], out: &[u32], keys: &mut [u64]) -> Verdict
+    requires { ⌜ 256 ≤ length (now keys) ⌝ }
+    ensures { λ r. ⌜ Keyed (assignVerdict (now (section .entry)) (now (demands .entry)) (now (out .entry))) (now (section .entry)) (now (keys .entry)) r (now (keys .exit)) ⌝ }
+{
+    if !layout_good(section, demands) {
+        return refusals::refuse(Refusal::LAYOUT, 0);
+    }
+    let rows = read_keys(section, demands.len(), keys);
+    let room = room_verdict(section.len() / 16 <= out.len());
+    or_else(rows, room)
+}
+
+// ---- from rows to places and back
 
 fn row_of(k: u64) -> usize
     ensures { λ r. ⌜ r ≡ rowOf k ⌝ }
@@ -137,13 +114,13 @@ fn row_of(k: u64) -> usize
 }
 
 // The quantities by place.
-fn gather(keys: &[u64], n: usize, quantities: &[u32], out: &mut [u32])
-    requires { ⌜ (n ≤ length (now keys)) × (n ≤ length (now out)) × Rowed (now keys) n (length (now quantities)) ⌝ }
-    ensures { λ _. ⌜ Filled 0 (now (out .entry)) (now (out .exit)) n (λ u. at (now (quantities .entry)) (rowOf (at (now (keys .entry)) u))) ⌝ }
+fn gather(section: &[u8], keys: &[u64], n: usize, out: &mut [u32])
+    requires { ⌜ (n ≤ length (now keys)) × (n ≤ length (now out)) ⌝ }
+    ensures { λ _. ⌜ Filled 0 (now (out .entry)) (now (out .exit)) n (λ u. rowIn (now (section .entry)) (rowOf (at (now (keys .entry)) u)) .quantity) ⌝ }
 {
     let mut p = 0;
     while p < n {
-        out[p] = quantities[row_of(keys[p])];
+        out[p] = rows::contract_of(rows::row_at(section, row_of(keys[p]))).quantity;
         p += 1;
     }
 }
@@ -162,44 +139,31 @@ fn scatter(keys: &[u64], n: usize, amounts: &[u32], out: &mut [u32])
 
 // ---- the amounts
 
-// Rows that nothing is wrong with: put in order, assigned by place, and put back.
-fn assign_rows(
-    buyers: &[u32],
-    kinds: &[u32],
-    prices: &[u32],
-    quantities: &[u32],
-    demands: &[u32],
-    out: &mut [u32],
-)
-    requires { ⌜ Ready (rowsOf (now buyers) (now kinds) (now prices) (now quantities)) (now demands) × (length (now buyers) ≤ length (now out)) ⌝ }
-    ensures { λ _. ⌜ Filled 0 (now (out .entry)) (now (out .exit)) (length (now (buyers .entry))) (hourAmount (rowsOf (now (buyers .entry)) (now (kinds .entry)) (now (prices .entry)) (now (quantities .entry))) (now (demands .entry))) ⌝ }
+// Rows that nothing is wrong with: put in order by their keys, assigned by place, and put back.
+fn assign_rows(section: &[u8], keys: &mut [u64], demands: &[u32], out: &mut [u32])
+    requires { ⌜ Ready (rowsIn (now section)) (now demands) × (countIn (now section) ≤ length (now out)) ⌝ }
+    requires { ⌜ (countIn (now section) ≤ length (now keys)) × ((j : ℕ) → j < countIn (now section) → at (now keys) j ≡ keyIn (now section) j) ⌝ }
+    ensures { λ _. ⌜ Filled 0 (now (out .entry)) (now (out .exit)) (countIn (now (section .entry))) (hourAmount (rowsIn (now (section .entry))) (now (demands .entry))) ⌝ }
 {
-    let n = buyers.len();
-    let mut keys = [0u64; 256];
+    let n = section.len() / 16;
+    order::sort(keys, n);
+    // Behind the sort, so that they can lie where its own scratch lay.
     let mut placed = [0u32; 256];
     let mut amounts = [0u32; 256];
-    fill_keys(buyers, kinds, prices, &mut keys);
-    order::sort(&mut keys, n);
-    gather(&keys, n, quantities, &mut placed);
-    walk::walk(&keys, n, &placed, demands, &mut amounts);
-    scatter(&keys, n, &amounts, out);
+    gather(section, keys, n, &mut placed);
+    walk::walk(keys, n, &placed, demands, &mut amounts);
+    scatter(keys, n, &amounts, out);
 }
 
-// What each contract of the hour gets; `demands` has the commercial demand of each agent.
-pub fn assign(
-    buyers: &[u32],
-    kinds: &[u32],
-    prices: &[u32],
-    quantities: &[u32],
-    demands: &[u32],
-    out: &mut [u32],
-) -> Verdict
-    ensures { λ r. ⌜ Assigned (rowsOf (now (buyers .entry)) (now (kinds .entry)) (now (prices .entry)) (now (quantities .entry))) (now (demands .entry)) (now (out .entry)) r (now (out .exit)) ⌝ }
+// What each contract of a section of rows gets; `demands` has the commercial demand of each agent.
+pub fn assign(section: &[u8], demands: &[u32], out: &mut [u32]) -> Verdict
+    ensures { λ r. ⌜ Assigned (now (section .entry)) (now (demands .entry)) (now (out .entry)) r (now (out .exit)) ⌝ }
 {
-    let v = judge(buyers, kinds, prices, quantities, demands, out);
+    let mut keys = [0u64; 256];
+    let v = judge(section, demands, out, &mut keys);
     let Verdict::Fine = v else {
         return v;
     };
-    assign_rows(buyers, kinds, prices, quantities, demands, out);
+    assign_rows(section, &mut keys, demands, out);
     Verdict::Fine
 }

@@ -9,12 +9,13 @@ use mathlib.Core.Path.{_≡_, _∙_, sym}
 use lib.IntN.{pos}
 use Rattle.sums.specs.Sums.{sum, pick}
 use Rattle.sums.proofs.Fill.{filled-unique}
+use Rattle.columns.specs.Columns.{hourOf}
 use Rattle.hour.specs.Balance.{hourDemand}
 use Rattle.hour.specs.Signed.{signedSum}
 use Rattle.hour.specs.Answer.{Lent}
 use Rattle.hour.specs.declared.Summary.{Summary}
 use Rattle.hour.proofs.Verdicts.{Roomy}
-use Rattle.settle.specs.Settled.{hourOf, Settled}
+use Rattle.settle.specs.Settled.{Settled}
 use Rattle.duties.specs.Result.{agentsOf, contractsOf, isRetailer, isGenerator, generatedIn, PossibleFor, costOf, Passes, Untouched, shareIn, contractedIn, boughtIn, soldIn, moneyIn, scheduleIn, amountIn}
 use Rattle.duties.proofs.Steps.{Hour, number-none, list-possible, list-cheapest, list-balanced, demand-generated, list-shares, list-buyers, list-sellers, list-money}
 use Rattle.duties.proofs.Stages.{number-tells, refused-leaves, ten-tells, the-hour}

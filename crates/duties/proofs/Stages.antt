@@ -12,12 +12,13 @@ use Rattle.sums.proofs.Fill.{filled-count, filled-same}
 use Rattle.refusals.specs.Refusals.{uncovered, refused, cells, numberOf}
 use Rattle.refusals.specs.declared.Verdict.{Verdict}
 use Rattle.sheet.specs.Reading.{readVerdict}
+use Rattle.columns.specs.Columns.{hourOf}
 use Rattle.hour.specs.Balance.{hourDemand}
 use Rattle.hour.specs.Answer.{Lent, balanceVerdict, coverVerdict, roomVerdict}
 use Rattle.hour.specs.declared.Summary.{Summary}
 use Rattle.hour.proofs.Verdicts.{cover-fine, cover-10, Roomy, room-fine}
 use Rattle.hour.proofs.Balance.{refused-exactly}
-use Rattle.settle.specs.Settled.{hourOf, verdictOf, Settled}
+use Rattle.settle.specs.Settled.{verdictOf, Settled}
 use Rattle.duties.specs.Result.{plantsOf, PossibleFor, Passes, Untouched}
 use Rattle.columns.proofs.Numbers.{read-between, balance-between, cover-between, room-between, inOrder, early-passed, late-number, not-ten}
 use Rattle.duties.proofs.Steps.{verdict-is, number-is, Hour}

@@ -12,6 +12,7 @@ use Rattle.sums.proofs.Sums.{sum-eq}
 use Rattle.refusals.specs.declared.Verdict.{Verdict}
 use Rattle.merit.specs.Merit.{cost}
 use Rattle.sheet.specs.Reading.{countsOf, readVerdict, readOf}
+use Rattle.columns.specs.Columns.{hourOf}
 use Rattle.hour.specs.Sheet.{Sheet}
 use Rattle.hour.specs.Sound.{Sound}
 use Rattle.hour.specs.Balance.{losses, lossShare, hourDemand}
@@ -25,7 +26,7 @@ use Rattle.hour.proofs.Money.{signed-eq}
 use Rattle.hour.proofs.Demand.{loss-shares, demand-delivered, generators-metered}
 use Rattle.hour.proofs.Balance.{schedule-possible, schedule-cheapest, contracted-buyers, contracted-sellers, bought-sold, money-none}
 use Rattle.columns.proofs.Columns.{sound}
-use Rattle.settle.specs.Settled.{hourOf, verdictOf, Settled}
+use Rattle.settle.specs.Settled.{verdictOf, Settled}
 use Rattle.duties.specs.Result.{agentsOf, plantsOf, contractsOf, isRetailer, isGenerator, generatedIn, PossibleFor, costOf, Passes, shareIn, contractedIn, boughtIn, soldIn, moneyIn, scheduleIn, amountIn}
 use Rattle.refusals.specs.Refusals.{numberOf}
 use Rattle.columns.proofs.Numbers.{inOrder}

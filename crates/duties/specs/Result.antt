@@ -9,11 +9,11 @@ use Rattle.sums.specs.Lists.{at}
 use Rattle.refusals.specs.declared.Verdict.{Verdict}
 use Rattle.merit.specs.Merit.{Possible, none, cost}
 use Rattle.sheet.specs.Reading.{readVerdict}
+use Rattle.columns.specs.Columns.{hourOf}
 use Rattle.hour.specs.Sheet.{agents, plants, contracts, retails}
 use Rattle.hour.specs.Balance.{generated}
 use Rattle.hour.specs.Answer.{Lent, balanceVerdict}
 use Rattle.hour.specs.declared.Summary.{Summary}
-use Rattle.settle.specs.Settled.{hourOf}
 
 -- ---- the hour that the bytes tell
 abbrev pub agentsOf : List ℕ → ℕ

@@ -86,6 +86,16 @@ module _ (s : Sheet) (ok : Sound s) where
   generator-buys : (a : ℕ) → retails s a ≡ false → buys s a ≡ 0
   generator-buys a e = keyed-kind (retails s) (at (s .deals .buyers)) (amount s) (contracts s) true (λ j l. ok .contract j l .retailer) a e
 
+  -- nobody does both: what an agent bought and what it sold under contract, together, are what it holds
+  pub contracted-both : (a : ℕ)
+      → keyed (at (s .deals .buyers)) (amount s) (contracts s) a + keyed (at (s .sellers)) (amount s) (contracts s) a ≡ contracted s a
+  unfolding contracted
+  contracted-both a = go (retails s a) refl
+    where
+      go : (t : Bool) → retails s a ≡ t → buys s a + sells s a ≡ cond t (buys s a) (sells s a)
+      go true e = omega (arith, retailer-sells a e)
+      go false e = omega (arith, generator-buys a e)
+
   all-made : sum (agents s) (made s) ≡ sum (plants s) (scheduled s)
   all-made = keyed-total (at (s .holders)) (scheduled s) (agents s) (plants s) (λ i l. ok .plant i l .there)
 

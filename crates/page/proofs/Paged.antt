@@ -23,14 +23,14 @@ use Rattle.hour.specs.Sheet.{Sheet, agents}
 use Rattle.hour.specs.Lines.{figure, money}
 use Rattle.hour.specs.Answer.{Lent, hourVerdict, balanceVerdict, coverVerdict, roomVerdict, summaryOf}
 use Rattle.hour.specs.declared.Summary.{Summary}
-use Rattle.columns.specs.Columns.{columnsOf}
+use Rattle.columns.specs.Columns.{columnsOf, hourOf}
 use Rattle.columns.proofs.Columns.{agents-long, plants-long, contracts-long}
 use Rattle.hour.proofs.Verdicts.{Roomy, room-fine}
 use Rattle.sheet.proofs.Accepted.{Few, accepted-few}
 use Rattle.refusals.proofs.Fine.{fine-left}
 use Rattle.printing.proofs.Length.{page-short}
 use Rattle.columns.proofs.Numbers.{Between, read-between, balance-between, cover-between, room-between}
-use Rattle.settle.specs.Settled.{lent, hourOf, verdictOf, Settled}
+use Rattle.settle.specs.Settled.{lent, verdictOf, Settled}
 use Rattle.printing.specs.Page.{pageOf, printVerdict, printed, Prints}
 use Rattle.printing.specs.declared.Printed.{Printed}
 use Rattle.page.specs.Page.{verdictFor, pageText}

@@ -7,10 +7,10 @@ use Rattle.sums.specs.Lists.{listTo}
 use Rattle.refusals.specs.Refusals.{noRoom, refusedUnless, firstOf}
 use Rattle.refusals.specs.declared.Verdict.{Verdict}
 use Rattle.sheet.specs.Reading.{readVerdict}
+use Rattle.columns.specs.Columns.{hourOf}
 use Rattle.hour.specs.Sheet.{agents}
 use Rattle.hour.specs.Lines.{figure, money}
 use Rattle.hour.specs.Answer.{balanceVerdict, coverVerdict, summaryOf}
-use Rattle.settle.specs.Settled.{hourOf}
 use Rattle.printing.specs.Page.{pageOf, Prints}
 use Rattle.printing.specs.declared.Printed.{Printed}
 

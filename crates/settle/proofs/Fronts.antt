@@ -7,7 +7,7 @@ use lib.ListN.{length, take}
 use Rattle.rows.specs.Limits.{mostEnergy}
 use Rattle.sums.specs.Lists.{Filled}
 use Rattle.sums.proofs.Fill.{filled-front}
-use Rattle.sheet.specs.Asking.{plantAt, contractAt}
+use Rattle.sheet.specs.Asking.{plantAt}
 use Rattle.sheet.specs.Reading.{readOf}
 use Rattle.sheet.specs.declared.Counts.{Counts}
 use Rattle.sheet.specs.declared.Reading.{Reading}
@@ -31,27 +31,6 @@ module _ (s : List ℕ) (c : Counts) (l₀ l : List ℕ) where
     pub available-are : Filled 0 l₀ l (c .plants) (λ i. plantAt s c i .availability) → take (c .plants) l ≡ columnsOf s c .available
     unfolding columnsOf
     available-are f = filled-front 0 l₀ l (c .plants) _ h f
-
-  module _ (h : c .contracts ≤ length l₀) where
-    pub sellers-are : Filled 0 l₀ l (c .contracts) (λ i. contractAt s c i .seller) → take (c .contracts) l ≡ columnsOf s c .sellers
-    unfolding columnsOf
-    sellers-are f = filled-front 0 l₀ l (c .contracts) _ h f
-
-    pub buyers-are : Filled 0 l₀ l (c .contracts) (λ i. contractAt s c i .buyer) → take (c .contracts) l ≡ columnsOf s c .deals .buyers
-    unfolding columnsOf
-    buyers-are f = filled-front 0 l₀ l (c .contracts) _ h f
-
-    pub kinds-are : Filled 0 l₀ l (c .contracts) (λ i. contractAt s c i .kind) → take (c .contracts) l ≡ columnsOf s c .deals .kinds
-    unfolding columnsOf
-    kinds-are f = filled-front 0 l₀ l (c .contracts) _ h f
-
-    pub prices-are : Filled 0 l₀ l (c .contracts) (λ i. contractAt s c i .price) → take (c .contracts) l ≡ columnsOf s c .deals .prices
-    unfolding columnsOf
-    prices-are f = filled-front 0 l₀ l (c .contracts) _ h f
-
-    pub quantities-are : Filled 0 l₀ l (c .contracts) (λ i. contractAt s c i .quantity) → take (c .contracts) l ≡ columnsOf s c .deals .quantities
-    unfolding columnsOf
-    quantities-are f = filled-front 0 l₀ l (c .contracts) _ h f
 
 -- an availability within its limit
 pub row-available : (s : List ℕ) (c : Counts) → readOf s ≡ Reading.Accepted c → (i : ℕ) → i < c .plants → plantAt s c i .availability ≤ mostEnergy

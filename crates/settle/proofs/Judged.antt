@@ -14,11 +14,9 @@ use Rattle.refusals.specs.Refusals.{uncovered, noRoom, refused, cells}
 use Rattle.refusals.specs.declared.Refusal.{Refusal}
 use Rattle.refusals.specs.declared.Verdict.{Verdict}
 use Rattle.rows.specs.Limits.{mostAgents}
-use Rattle.sheet.specs.Reading.{readOf, readVerdict, reading, countsOf}
-use Rattle.sheet.specs.declared.Counts.{Counts}
+use Rattle.sheet.specs.Reading.{readOf, readVerdict, countsOf}
 use Rattle.sheet.specs.declared.Reading.{Reading}
-use Rattle.sheet.proofs.Accepted.{accepted-counts}
-use Rattle.columns.specs.Columns.{columnsOf}
+use Rattle.columns.specs.Columns.{columnsOf, hourOf}
 use Rattle.columns.proofs.Columns.{agents-long, plants-long, contracts-long}
 use Rattle.hour.specs.Sheet.{Sheet, agents, plants, contracts}
 use Rattle.hour.specs.Balance.{lossShare, commercial, ownImport, losses, demands, hourDemand}
@@ -26,11 +24,12 @@ use Rattle.hour.specs.Answer.{Lent, balanceVerdict, coverVerdict, roomVerdict, 
 use Rattle.hour.specs.declared.Summary.{Summary}
 use Rattle.hour.proofs.Verdicts.{Roomy, covered}
 use Rattle.hour.proofs.Verdicts as verdicts
-use Rattle.refusals.proofs.Fine.{fine-parts}
-use Rattle.balance.specs.Balances.{zeros, Balances}
+use Rattle.refusals.proofs.Fine.{both-fine, AllFine, fine-parts}
+use Rattle.balance.specs.Balances.{zeros, weighVerdict, Weighed}
 use Rattle.balance.specs.declared.Balance.{Balance}
+use Rattle.balance.proofs.Weighed.{weighed-counts, weighed-accepted}
 use Rattle.settle.specs.Parts.{turnedAway, roomy, judged}
-use Rattle.settle.specs.Settled.{lent, hourOf, verdictOf, Outcome, Settled}
+use Rattle.settle.specs.Settled.{lent, verdictOf, Outcome, Settled}
 
 -- ---- the ways out of the judgement
 module _ (v : Verdict) (d o : ℕ) (room : Bool) (e : v ≡ Verdict.Fine) where
@@ -43,53 +42,76 @@ module _ (v : Verdict) (d o : ℕ) (room : Bool) (e : v ≡ Verdict.Fine) where
   pub judged-fine : d ≤ o → room ≡ true → judged v d o room ≡ Verdict.Fine
   judged-fine l r = rw (e, le-leb d o l, r)
 
--- a refused balance is the hour's refusal; else the demand is the hour's, and so are refusals 10 and 11
-pub verdict-is : (h : Sheet) (l : Lent) (v : Verdict) (d : ℕ) → v ≡ balanceVerdict h → d ≡ cells (balanceVerdict h) (hourDemand h)
-    → judged v d (sum (plants h) (at (h .available))) (roomy (agents h) (plants h) (contracts h) (length (l .figures)) (length (l .money)) (length (l .schedule)) (length (l .amounts))) ≡ hourVerdict h l
-unfolding hourVerdict coverVerdict roomVerdict
-verdict-is h l v d p q = go (balanceVerdict h) refl
-  where
-    go : (w : Verdict) → balanceVerdict h ≡ w
-        → judged v d (sum (plants h) (at (h .available))) (roomy (agents h) (plants h) (contracts h) (length (l .figures)) (length (l .money)) (length (l .schedule)) (length (l .amounts))) ≡ hourVerdict h l
-    go Verdict.Fine e = let z : d ≡ hourDemand h = rw e at q in rw (p, z)
-    go (Verdict.Refused r) e = rw (p, e)
+-- a refused balance is the hour's refusal; else the counts and the demand are the sheet's, and so are refusals 10 and 11
+module _ (bytes : List ℕ) (l : Lent) (b : Balance) (w : Weighed bytes b) where
+  abbrev sheet : Sheet
+  sheet = columnsOf bytes (b .counts)
 
--- room by the counts is room by the sheet
-pub room-is : (s : List ℕ) (c : Counts) (f m p q : ℕ)
-    → roomy (c .agents) (c .plants) (c .contracts) f m p q ≡ roomy (agents (columnsOf s c)) (plants (columnsOf s c)) (contracts (columnsOf s c)) f m p q
-room-is s c f m p q = rw (agents-long s c, plants-long s c, contracts-long s c)
+  abbrev room : Bool
+  room = roomy (b .counts .agents) (b .counts .plants) (b .counts .contracts) (length (l .figures)) (length (l .money)) (length (l .schedule)) (length (l .amounts))
 
--- ---- an hour that nothing turns away
-pub record Open (h : Sheet) (l : Lent) : Type 0 where
-  pub balance : balanceVerdict h ≡ Verdict.Fine
-  pub cover : hourDemand h ≤ sum (plants h) (at (h .available))
-  pub room : Roomy h l
+  pub verdict-is : judged (b .verdict) (b .demand) (sum (plants sheet) (at (sheet .available))) room ≡ verdictOf bytes l
+  unfolding verdictOf hourVerdict coverVerdict roomVerdict weighVerdict hourOf
+  verdict-is = go (readVerdict bytes) (balanceVerdict (hourOf bytes)) refl refl
+    where
+      go : (u v : Verdict) → readVerdict bytes ≡ u → balanceVerdict (hourOf bytes) ≡ v
+          → judged (b .verdict) (b .demand) (sum (plants sheet) (at (sheet .available))) room ≡ verdictOf bytes l
+      go (Verdict.Refused q) v e f = rw (w .answer, e)
+      go Verdict.Fine (Verdict.Refused q) e f = rw (w .answer, e, f)
+      go Verdict.Fine Verdict.Fine e f =
+          let fine : weighVerdict bytes ≡ Verdict.Fine = rw (e, f) in
+          let c : b .counts ≡ countsOf bytes = weighed-counts bytes b w fine in
+          let d : b .demand ≡ hourDemand (hourOf bytes) = rw fine at (w .demand) in
+          rw (w .answer, fine, d, c, e, f, agents-long bytes (countsOf bytes), plants-long bytes (countsOf bytes), contracts-long bytes (countsOf bytes))
 
-pub opened : (h : Sheet) (l : Lent) → hourVerdict h l ≡ Verdict.Fine → Open h l
-unfolding hourVerdict
-opened h l e =
-    let all = fine-parts (balanceVerdict h ∷ coverVerdict h ∷ roomVerdict h l ∷ []) e in
-    record { balance = all .0; cover = covered h (all .1 .0); room = verdicts.roomy h l (all .1 .1 .0) }
+  -- ---- an hour that nothing turns away: what was read and weighed is the sheet's
+  pub record Open : Type 0 where
+    pub read : readOf bytes ≡ Reading.Accepted (b .counts)
+    pub cover : hourDemand sheet ≤ sum (plants sheet) (at (sheet .available))
+    pub room : Roomy sheet l
+    pub kinds : Filled 0 zeros (b .kinds) (b .counts .agents) (at (sheet .kinds))
+    pub shares : Filled 0 zeros (b .shares) (b .counts .agents) (lossShare sheet)
+    pub commercial : Filled 0 zeros (b .commercial) (b .counts .agents) (commercial sheet)
+    pub imports : Filled 0 zeros (b .imports) (b .counts .agents) (ownImport sheet)
+    pub losses : b .losses ≡ losses sheet
+    pub demand : b .demand ≡ hourDemand sheet
 
--- the balance of n agents, where it is fine
-pub record Weighed (h : Sheet) (n : ℕ) (r : Balance) : Type 0 where
-  pub kinds : Filled 0 zeros (r .kinds) n (at (h .kinds))
-  pub shares : Filled 0 zeros (r .shares) n (lossShare h)
-  pub commercial : Filled 0 zeros (r .commercial) n (commercial h)
-  pub imports : Filled 0 zeros (r .imports) n (ownImport h)
-  pub losses : r .losses ≡ losses h
-  pub demand : r .demand ≡ hourDemand h
+  module _ (fine : verdictOf bytes l ≡ Verdict.Fine) where
+    parts : (readVerdict bytes ≡ Verdict.Fine) × (hourVerdict (hourOf bytes) l ≡ Verdict.Fine)
+    unfolding verdictOf
+    parts = both-fine (readVerdict bytes) (hourVerdict (hourOf bytes) l) fine
 
-pub weighed : (h : Sheet) (n : ℕ) (r : Balance) → agents h ≡ n → balanceVerdict h ≡ Verdict.Fine → Balances h r → Weighed h n r
-weighed h n r e v b =
-    record {
-      kinds = filled-count 0 _ _ _ _ _ e (rw v at (b .kinds));
-      shares = filled-count 0 _ _ _ _ _ e (rw v at (b .shares));
-      commercial = filled-count 0 _ _ _ _ _ e (rw v at (b .commercial));
-      imports = filled-count 0 _ _ _ _ _ e (rw v at (b .imports));
-      losses = rw v at (b .losses);
-      demand = rw v at (b .demand);
-    }
+    tests : AllFine (balanceVerdict (hourOf bytes) ∷ coverVerdict (hourOf bytes) ∷ roomVerdict (hourOf bytes) l ∷ [])
+    unfolding hourVerdict
+    tests = fine-parts (balanceVerdict (hourOf bytes) ∷ coverVerdict (hourOf bytes) ∷ roomVerdict (hourOf bytes) l ∷ []) (parts .1)
+
+    weight : weighVerdict bytes ≡ Verdict.Fine
+    unfolding weighVerdict
+    weight = rw (parts .0) (tests .0)
+
+    -- the sheet is the one that the bytes hold
+    pub sheet-is : sheet ≡ hourOf bytes
+    unfolding hourOf
+    sheet-is = rw (weighed-counts bytes b w weight)
+
+    pub opened : Open
+    opened =
+        let h = sheet-is in
+        let n : agents (hourOf bytes) ≡ b .counts .agents = rw (sym h) (agents-long bytes (b .counts)) in
+        record {
+          read = weighed-accepted bytes b w (w .answer ∙ weight);
+          cover = rw h (covered (hourOf bytes) (tests .1 .0));
+          room = rw h (verdicts.roomy (hourOf bytes) l (tests .1 .1 .0));
+          kinds = rw h (filled-count 0 _ _ _ _ _ n (rw weight at (w .kinds)));
+          shares = rw h (filled-count 0 _ _ _ _ _ n (rw weight at (w .shares)));
+          commercial = rw h (filled-count 0 _ _ _ _ _ n (rw weight at (w .commercial)));
+          imports = rw h (filled-count 0 _ _ _ _ _ n (rw weight at (w .imports)));
+          losses = rw h (rw weight at (w .losses));
+          demand = rw h (rw weight at (w .demand));
+        }
+
+    pub settled : (after : Lent) (x : Summary) → Outcome Verdict.Fine sheet l after x → Settled bytes l after x
+    settled after x o = rw fine (rw sheet-is at o)
 
 pub demands-are : (h : Sheet) (n : ℕ) (l : List ℕ) → agents h ≡ n → n ≤ mostAgents → Filled 0 zeros l n (commercial h) → take n l ≡ demands h
 unfolding demands
@@ -106,30 +128,6 @@ turned-away v h l r e =
       schedule = filled-count 0 _ _ 0 _ _ (none _) (filled-none 0 _ _);
       amounts = filled-count 0 _ _ 0 _ _ (none _) (filled-none 0 _ _);
     }
-
--- ---- from an accepted sheet to its bytes
-read-fine : (v : Verdict) (c k : Counts) → reading v k ≡ Reading.Accepted c → v ≡ Verdict.Fine
-read-fine Verdict.Fine c k e = refl
-read-fine (Verdict.Refused r) c k e = let z : _≡_ {A = ℕ} 0 1 = cc in absurd (omega arith)
-
-read-refused : (v : Verdict) (k : Counts) (r : Refusal) → reading v k ≡ Reading.Refused r → v ≡ Verdict.Refused r
-read-refused Verdict.Fine k r e = let z : _≡_ {A = ℕ} 0 1 = cc in absurd (omega arith)
-read-refused (Verdict.Refused s) k r e = cc
-
-module _ (bytes : List ℕ) (before after : Lent) (x : Summary) where
-  pub settled-read : (c : Counts) → readOf bytes ≡ Reading.Accepted c → Outcome (hourVerdict (columnsOf bytes c) before) (columnsOf bytes c) before after x
-      → Settled bytes before after x
-  unfolding verdictOf hourOf readOf
-  settled-read c e o =
-      let k : c ≡ countsOf bytes = accepted-counts bytes c e in
-      let v : readVerdict bytes ≡ Verdict.Fine = read-fine (readVerdict bytes) c (countsOf bytes) e in
-      rw v (rw k at o)
-
-pub settled-refused : (bytes : List ℕ) (l : Lent) (r : Refusal) → readOf bytes ≡ Reading.Refused r → Settled bytes l l (turnedAway r)
-unfolding readOf verdictOf
-settled-refused bytes l r e =
-    let v : readVerdict bytes ≡ Verdict.Refused r = read-refused (readVerdict bytes) (countsOf bytes) r e in
-    turned-away (verdictOf bytes l) (hourOf bytes) l r (rw v)
 
 -- ---- two outcomes that meet the promise are one
 pub one-outcome : (bytes : List ℕ) (before x y : Lent) (q r : Summary) → Settled bytes before x q → Settled bytes before y r → (q ≡ r) × (x ≡ y)

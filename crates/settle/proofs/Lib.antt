@@ -1,4 +1,5 @@
 pub mod OneLine
 pub mod Fronts
 pub mod Stages
+pub mod Holdings
 pub mod Judged

@@ -12,7 +12,6 @@ use Rattle.sums.specs.Sums.{pick, keyed}
 use Rattle.sums.specs.Lists.{at, Filled}
 use Rattle.sums.proofs.Sums.{peak-eq}
 use Rattle.sums.proofs.Keyed.{keyed-eq}
-use Rattle.sums.proofs.Lists.{length-listTo}
 use Rattle.sums.proofs.Fill.{filled-count, filled-by}
 use Rattle.refusals.specs.declared.Verdict.{Verdict}
 use Rattle.rows.specs.Limits.{mostAgents}
@@ -20,14 +19,12 @@ use Rattle.rows.specs.Rows.{isRetailer}
 use Rattle.merit.specs.Merit.{hourPrice}
 use Rattle.dispatch.specs.Dispatch.{Dispatched, priceOf}
 use Rattle.dispatch.proofs.Dispatched.{dispatched-plain, price-plain}
-use Rattle.contracts.specs.Assign.{rowsOf, assignVerdict, Assigned}
-use Rattle.contracts.proofs.Verdicts.{Laid, Row, assign-fine}
-use Rattle.hour.specs.Sheet.{Sheet, agents, plants, contracts, retails}
+use Rattle.hour.specs.Sheet.{Sheet, agents, plants, retails}
 use Rattle.hour.specs.Sound.{Sound}
-use Rattle.hour.specs.Balance.{lossShare, ownImport, commercial, demands, hourDemand}
-use Rattle.hour.specs.Lines.{scheduled, price, amount, own, contracted, bought, sold, money, figure}
+use Rattle.hour.specs.Balance.{lossShare, ownImport, commercial, hourDemand}
+use Rattle.hour.specs.Lines.{scheduled, price, own, contracted, bought, sold, money, figure}
 use Rattle.hour.proofs.Bounds.{scheduled-le, import-le, imported-le}
-use Rattle.hour.proofs.Fits.{amount-le, contracted-le}
+use Rattle.hour.proofs.Fits.{contracted-le}
 use Rattle.hour.proofs.Cells.{figure-is}
 use Rattle.settle.specs.Parts.{Countable, Tallied, Covered, buys, sells, lineCell, lineMoney}
 
@@ -76,71 +73,11 @@ module _ (h : Sheet) (ok : Sound h) where
       made-is ks sums p t a m =
           (rw p at t) a m ∙ keyed-eq _ _ _ _ (plants h) a (λ j k. refl) (λ j k. front-at _ _ _ _ f j (omega arith))
 
-  -- ---- contracts
-  demands-long : length (demands h) ≡ agents h
-  unfolding demands
-  demands-long = length-listTo (commercial h) (agents h)
-
-  deals-laid : Laid (h .deals) (demands h)
-  deals-laid =
-      let n = ok .whole .buyers in
-      record {
-        kinds = ok .whole .kinds ∙ sym n;
-        prices = ok .whole .prices ∙ sym n;
-        quantities = ok .whole .quantities ∙ sym n;
-        few = omega (arith, ok .few .contracts);
-        agents = omega (arith, demands-long, ok .few .agents);
-      }
-
-  deals-row : (i : ℕ) → i < contracts h → Row (at (h .deals .buyers) i) (at (h .deals .kinds) i) (at (h .deals .prices) i) (at (h .deals .quantities) i) (length (demands h))
-  deals-row i m =
-      let k = ok .contract i m in
-      record {
-        buyer = omega (arith, k .buyerThere, demands-long);
-        least = k .least;
-        most = k .most;
-        price = k .price;
-        quantity = k .quantity;
-      }
-
-  module _ (n : ℕ) (e : contracts h ≡ n) where
-    pub amounts-are : (bs ks ps qs ds before : List ℕ) (r : Verdict) (after : List ℕ) → bs ≡ h .deals .buyers → ks ≡ h .deals .kinds
-        → ps ≡ h .deals .prices → qs ≡ h .deals .quantities → ds ≡ demands h → n ≤ length before
-        → Assigned (rowsOf bs ks ps qs) ds before r after → Filled 0 before after n (amount h)
-    unfolding amount
-    amounts-are bs ks ps qs ds before r after b k p q d l w =
-        let x : Assigned (h .deals) (demands h) before r after = rw (b, k, p, q, d) at w in
-        let m = ok .whole .buyers in
-        let v : assignVerdict (h .deals) (demands h) before ≡ Verdict.Fine = assign-fine (h .deals) (demands h) before deals-laid (λ i j. deals-row i (omega arith)) (omega arith) in
-        filled-count 0 _ _ _ _ _ (m ∙ e) (rw v at (x .result))
-
-    -- what each agent holds as a seller, or as a buyer
-    module _ (before after : List ℕ) (l : n ≤ length before) (f : Filled 0 before after n (amount h)) (keys : List ℕ) (long : length keys ≡ contracts h) where
-      pub contracts-count : (ks : List ℕ) → ks ≡ keys → ((j : ℕ) → j < contracts h → at keys j < agents h) → Countable ks (take n after)
-      contracts-count ks p there =
-          rw p
-          (record {
-            few = omega (arith, ok .few .contracts);
-            long = omega (arith, front-long _ _ _ _ f l);
-            agent = λ j m. omega (arith, there j (omega arith), ok .few .agents);
-            value = λ j m. omega (arith, front-at _ _ _ _ f j (omega arith), amount-le h ok j (omega arith));
-          })
-
-      pub held-is : (ks sums : List ℕ) → ks ≡ keys → Tallied ks (take n after) sums → (a : ℕ) → a < mostAgents
-          → at sums a ≡ keyed (at keys) (amount h) (contracts h) a
-      held-is ks sums p t a m =
-          (rw (p, long) at t) a m ∙ keyed-eq _ _ _ _ (contracts h) a (λ j k. refl) (λ j k. front-at _ _ _ _ f j (omega arith))
-
--- ---- an agent's own energy and what it holds under contract, by its kind
+-- ---- an agent's own energy, by its kind
 module _ (h : Sheet) (a k x y : ℕ) (p : k ≡ at (h .kinds) a) where
   pub own-is : x ≡ commercial h a → y ≡ keyed (at (h .holders)) (scheduled h) (plants h) a → cond (isRetailer k) x y ≡ own h a
   unfolding own retails
   own-is q r = rw (p, q, r)
-
-  pub contracted-is : x ≡ keyed (at (h .deals .buyers)) (amount h) (contracts h) a → y ≡ keyed (at (h .sellers)) (amount h) (contracts h) a
-      → cond (isRetailer k) x y ≡ contracted h a
-  unfolding contracted retails
-  contracted-is q r = rw (p, q, r)
 
 -- ---- the lines of n agents, from their columns
 module _ (h : Sheet) (n : ℕ) (e : agents h ≡ n) (ks ss os is cs : List ℕ) (k : (a : ℕ) → a < n → at ks a ≡ at (h .kinds) a)

@@ -5,7 +5,7 @@ use mathlib.Core.List.{List, [], _∷_}
 use mathlib.Core.Path.{_≡_}
 use lib.Dec.{leb}
 use lib.IntN.{ℤ}
-use lib.ListN.{length}
+use lib.ListN.{length, set}
 use Rattle.sums.specs.Sums.{sum, keyed}
 use Rattle.sums.specs.Lists.{at, Filled}
 use Rattle.refusals.specs.Refusals.{uncovered, noRoom, refusedUnless, firstOf}
@@ -14,6 +14,7 @@ use Rattle.refusals.specs.declared.Verdict.{Verdict}
 use Rattle.rows.specs.Limits.{mostAgents, mostContracts, mostEnergy}
 use Rattle.rows.specs.Rows.{isRetailer}
 use Rattle.balance.specs.Balances.{zeros}
+use Rattle.contracts.specs.Assign.{countIn, rowIn}
 use Rattle.hour.specs.Sheet.{Sheet, agents, plants, contracts}
 use Rattle.hour.specs.Balance.{demands, hourDemand}
 use Rattle.hour.specs.Lines.{scheduled, price, amount, contracted, moneyOf, cellOf}
@@ -35,6 +36,10 @@ buys kind own import contracted = cond (isRetailer kind) (own - contracted) (con
 
 abbrev pub sells : (kind own contracted : ℕ) → ℕ
 sells kind own contracted = cond (isRetailer kind) (contracted - own) (own - contracted)
+
+-- six cells from k on
+abbrev pub lineSet : List ℕ → (k share own import contracted bought sold : ℕ) → List ℕ
+lineSet l k s o i c b v = set (set (set (set (set (set l k s) (k + 1) o) (k + 2) i) (k + 3) c) (k + 4) b) (k + 5) v
 
 -- cell k of the figures, and the money of agent a, from the columns of all agents
 abbrev pub lineCell : (kinds shares own imports contracted : List ℕ) → ℕ → ℕ
@@ -72,9 +77,22 @@ pub record Generates (h : Sheet) (x : ℕ) (ms before after : List ℕ) : Type 0
 
 -- ---- the contracts of the sheet h
 
--- the agents' kinds and commercial demands, and a cell for each contract
-pub record Demanding (h : Sheet) (ks ds : List ℕ) (room : ℕ) : Type 0 where
-  pub kinds : Filled 0 zeros ks (agents h) (at (h .kinds))
+-- rows of a contract section that name agents, and an amount for each
+pub record Holding (section amounts : List ℕ) : Type 0 where
+  pub few : countIn section ≤ mostContracts
+  pub long : countIn section ≤ length amounts
+  pub buyer : (j : ℕ) → j < countIn section → rowIn section j .buyer < mostAgents
+  pub seller : (j : ℕ) → j < countIn section → rowIn section j .seller < mostAgents
+  pub amount : (j : ℕ) → j < countIn section → at amounts j ≤ mostEnergy
+
+-- what each agent bought and what it sold under them, in one sum
+pub record Held (section amounts sums : List ℕ) : Type 0 where
+  pub each : (a : ℕ) → a < mostAgents
+      → at sums a ≡ keyed (λ j. rowIn section j .buyer) (at amounts) (countIn section) a + keyed (λ j. rowIn section j .seller) (at amounts) (countIn section) a
+  pub long : length sums ≡ mostAgents
+
+-- the agents' commercial demands, and a cell for each contract
+pub record Demanding (h : Sheet) (ds : List ℕ) (room : ℕ) : Type 0 where
   pub demands : ds ≡ demands h
   pub fits : contracts h ≤ room
 

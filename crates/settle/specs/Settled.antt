@@ -6,8 +6,8 @@ use lib.IntN.{ℤ, pos}
 use Rattle.sums.specs.Lists.{Filled}
 use Rattle.refusals.specs.Refusals.{orElse, cells}
 use Rattle.refusals.specs.declared.Verdict.{Verdict}
-use Rattle.sheet.specs.Reading.{readVerdict, countsOf}
-use Rattle.columns.specs.Columns.{columnsOf}
+use Rattle.sheet.specs.Reading.{readVerdict}
+use Rattle.columns.specs.Columns.{hourOf}
 use Rattle.hour.specs.Sheet.{Sheet, agents, plants, contracts}
 use Rattle.hour.specs.Lines.{scheduled, amount, money, figure}
 use Rattle.hour.specs.Answer.{Lent, hourVerdict, summaryOf}
@@ -15,10 +15,6 @@ use Rattle.hour.specs.declared.Summary.{Summary}
 
 abbrev pub lent : List ℕ → List ℤ → List ℕ → List ℕ → Lent
 lent figures money schedule amounts = record { figures = figures; money = money; schedule = schedule; amounts = amounts }
-
--- the sheet that the bytes hold
-unfoldable pub hourOf : List ℕ → Sheet
-hourOf bytes = columnsOf bytes (countsOf bytes)
 
 -- refusals 1 to 6 are reading's, 7 to 11 the hour's
 unfoldable pub verdictOf : List ℕ → Lent → Verdict

@@ -4,7 +4,6 @@ use hour::Summary;
 use refusals::Refusal;
 use refusals::Verdict;
 use sheet::Counts;
-use sheet::Reading;
 
 mod agreed;
 mod lines;
@@ -16,12 +15,13 @@ ghost use Prim.Native.Nat.{_≤_};
 ghost use Rattle.sums.specs.Sums.{sum};
 ghost use Rattle.sums.specs.Lists.{at};
 ghost use Rattle.rows.specs.Limits.{mostAgents};
+ghost use Rattle.refusals.specs.declared.Verdict.{Verdict};
 ghost use Rattle.sheet.specs.Reading.{readOf};
+ghost use Rattle.sheet.specs.declared.Reading.{Reading};
 ghost use Rattle.columns.specs.Columns.{columnsOf};
 ghost use Rattle.hour.specs.Sheet.{plants};
-ghost use Rattle.hour.specs.Answer.{hourVerdict};
 ghost use Rattle.settle.specs.Parts.{turnedAway, roomy, judged};
-ghost use Rattle.settle.specs.Settled.{lent, Outcome, Settled};
+ghost use Rattle.settle.specs.Settled.{lent, Settled};
 
 fn turned_away(r: Refusal) -> Summary
     ensures { λ s. ⌜ s ≡ turnedAway r ⌝ }
@@ -46,13 +46,13 @@ fn has_room(c: Counts, figures: usize, money: usize, schedule: usize, amounts: u
         & (c.contracts <= amounts)
 }
 
-// Refusals 7 to 9 as the balance has them, then 10, then 11.
-fn judge(bytes: &[u8], c: Counts, balanced: Verdict, demand: u32, room: bool) -> Verdict
-    requires { ⌜ readOf (now bytes) ≡ Reading.Accepted c ⌝ }
-    ensures { λ r. ⌜ r ≡ judged balanced demand (sum (plants (columnsOf (now (bytes .entry)) c)) (at (columnsOf (now (bytes .entry)) c .available))) room ⌝ }
+// Refusals 1 to 9 as weighing has them, then 10, then 11.
+fn judge(bytes: &[u8], c: Counts, weighed: Verdict, demand: u32, room: bool) -> Verdict
+    requires { ⌜ (weighed ≡ Verdict.Fine → readOf (now bytes) ≡ Reading.Accepted c) ⌝ }
+    ensures { λ r. ⌜ r ≡ judged weighed demand (sum (plants (columnsOf (now (bytes .entry)) c)) (at (columnsOf (now (bytes .entry)) c .available))) room ⌝ }
 {
-    let Verdict::Fine = balanced else {
-        return balanced;
+    let Verdict::Fine = weighed else {
+        return weighed;
     };
     if plants::offered(bytes, c) < demand {
         return refusals::refuse(Refusal::UNCOVERED, 0);
@@ -61,48 +61,6 @@ fn judge(bytes: &[u8], c: Counts, balanced: Verdict, demand: u32, room: bool) ->
         return Verdict::Fine;
     }
     refusals::refuse(Refusal::ROOM, 0)
-}
-
-// A sheet that reading accepts with these counts.
-fn settle_read(
-    bytes: &[u8],
-    c: Counts,
-    figures: &mut [u32],
-    money: &mut [i64],
-    schedule: &mut [u32],
-    amounts: &mut [u32],
-) -> Summary
-    requires { ⌜ readOf (now bytes) ≡ Reading.Accepted c ⌝ }
-    ensures { λ r. ⌜ Outcome (hourVerdict (columnsOf (now (bytes .entry)) c) (lent (now (figures .entry)) (now (money .entry)) (now (schedule .entry)) (now (amounts .entry)))) (columnsOf (now (bytes .entry)) c) (lent (now (figures .entry)) (now (money .entry)) (now (schedule .entry)) (now (amounts .entry))) (lent (now (figures .exit)) (now (money .exit)) (now (schedule .exit)) (now (amounts .exit))) r ⌝ }
-{
-    let b = balance::weigh(bytes, c);
-    let balanced = b.verdict;
-    let demand = b.demand;
-    let losses = b.losses;
-    let room = has_room(c, figures.len(), money.len(), schedule.len(), amounts.len());
-    let verdict = judge(bytes, c, balanced, demand, room);
-    if let Verdict::Refused(r) = verdict {
-        return turned_away(r);
-    }
-    let n = c.agents;
-    let kinds = b.kinds;
-    let shares = b.shares;
-    let commercial = b.commercial;
-    let imports = b.imports;
-    let g = plants::generate(bytes, c, demand, schedule);
-    let price = g.price;
-    let made = g.made;
-    let contracted = agreed::agree(bytes, c, &kinds, &commercial[..n], amounts);
-    let own = tally::by_kind(&kinds, &commercial, &made, n);
-    lines::write_figures(&kinds, &shares, &own, &imports, &contracted, n, figures);
-    lines::write_money(&kinds, &own, &imports, &contracted, n, price, money);
-    Summary {
-        number: 0,
-        place: 0,
-        price,
-        demand,
-        losses,
-    }
 }
 
 // Settles the hour of a sheet, for every string of bytes and lists of every length.
@@ -115,9 +73,36 @@ pub fn settle(
 ) -> Summary
     ensures { λ r. ⌜ Settled (now (bytes .entry)) (lent (now (figures .entry)) (now (money .entry)) (now (schedule .entry)) (now (amounts .entry))) (lent (now (figures .exit)) (now (money .exit)) (now (schedule .exit)) (now (amounts .exit))) r ⌝ }
 {
-    let reading = sheet::read(bytes);
-    match reading {
-        Reading::Accepted(c) => settle_read(bytes, c, figures, money, schedule, amounts),
-        Reading::Refused(r) => turned_away(r),
+    let b = balance::weigh(bytes);
+    let c = b.counts;
+    let n = c.agents;
+    let demand = b.demand;
+    let room = has_room(c, figures.len(), money.len(), schedule.len(), amounts.len());
+    let verdict = judge(bytes, c, b.verdict, demand, room);
+    if let Verdict::Refused(r) = verdict {
+        return turned_away(r);
+    }
+    let g = plants::generate(bytes, c, demand, schedule);
+    let price = g.price;
+    let commercial = b.commercial;
+    let contracted = agreed::agree(bytes, c, &commercial[..n], amounts);
+    let own = tally::by_kind(&b.kinds, &commercial, &g.made, n);
+    lines::write_lines(
+        &b.kinds,
+        &b.shares,
+        &own,
+        &b.imports,
+        &contracted,
+        n,
+        price,
+        figures,
+        money,
+    );
+    Summary {
+        number: 0,
+        place: 0,
+        price,
+        demand,
+        losses: b.losses,
     }
 }

@@ -9,6 +9,7 @@ use native.Mathlib.Decide.{decLt}
 use lib.ListN.{length}
 use lib.Dec.{leb, eqb}
 use borrow.Author.Tests.{leb-true, eqb-true, le-leb, eq-eqb, lt-ltb, le-ltb}
+use Rattle.refusals.specs.declared.Refusal.{Refusal}
 use Rattle.refusals.specs.declared.Verdict.{Verdict}
 use Rattle.rows.specs.Limits.{mostAgents, mostBoundaries, mostPlants, mostContracts}
 use Rattle.rows.specs.Bytes.{wordsAt}
@@ -132,6 +133,15 @@ accepted-whole s c e =
     let h = fine-reading (readVerdict s) (countsOf s) c e in
     subst (λ (k : Counts). Whole s k) (h .1) (fine-whole s (h .0))
 
+-- a refused sheet has reading's refusal
+pub refused-verdict : (s : List ℕ) (r : Refusal) → readOf s ≡ Reading.Refused r → readVerdict s ≡ Verdict.Refused r
+unfolding readOf
+refused-verdict s r e = go (readVerdict s) e
+  where
+    go : (v : Verdict) → reading v (countsOf s) ≡ Reading.Refused r → v ≡ Verdict.Refused r
+    go Verdict.Fine e = let z : _≡_ {A = ℕ} 0 1 = cc in absurd (omega arith)
+    go (Verdict.Refused q) e = cc
+
 -- and a whole sheet is accepted
 pub whole-accepted : (s : List ℕ) (c : Counts) → Whole s c → readOf s ≡ Reading.Accepted c
 unfolding readOf
@@ -187,6 +197,10 @@ pub record ContractSound (s : List ℕ) (c : Counts) (i : ℕ) : Type 0 where
 module _ (s : List ℕ) (c : Counts) (e : readOf s ≡ Reading.Accepted c) where
   pub accepted-counts : c ≡ countsOf s
   accepted-counts = sym (accepted-whole s c e .counts)
+
+  pub accepted-fine : readVerdict s ≡ Verdict.Fine
+  unfolding readOf
+  accepted-fine = fine-reading (readVerdict s) (countsOf s) c e .0
 
   pub accepted-length : length s ≡ sheetLength c
   accepted-length = accepted-whole s c e .long

@@ -56,13 +56,13 @@ keyed-eq key key′ v w m k g h =
     sum-eq m (λ j. pick (eqb (key j) k) (v j)) (λ j. pick (eqb (key′ j) k) (w j))
     (λ j l. ap (λ (z : ℕ). pick (eqb z k) (v j)) (g j l) ∙ ap (pick (eqb (key′ j) k)) (h j l))
 
--- one row more, put into the cell of its key
-pub keyed-set : (key v : ℕ → ℕ) (m n : ℕ) (out : List ℕ) → key m < n → length out ≡ n
-    → ((a : ℕ) → a < n → at out a ≡ keyed key v m a)
-    → (a : ℕ) → a < n → at (set out (key m) (at out (key m) + v m)) a ≡ keyed key v (m + 1) a
-keyed-set key v m n out l e h a la = go (ℕ-discrete (key m) a)
+-- one row more, put into the cell of its key, which holds g too
+pub keyed-beside : (key v g : ℕ → ℕ) (m n : ℕ) (out : List ℕ) → key m < n → length out ≡ n
+    → ((a : ℕ) → a < n → at out a ≡ keyed key v m a + g a)
+    → (a : ℕ) → a < n → at (set out (key m) (at out (key m) + v m)) a ≡ keyed key v (m + 1) a + g a
+keyed-beside key v g m n out l e h a la = go (ℕ-discrete (key m) a)
   where
-    go : Dec (key m ≡ a) → at (set out (key m) (at out (key m) + v m)) a ≡ keyed key v (m + 1) a
+    go : Dec (key m ≡ a) → at (set out (key m) (at out (key m) + v m)) a ≡ keyed key v (m + 1) a + g a
     go (yes q) =
         omega (
           arith,
@@ -71,6 +71,13 @@ keyed-set key v m n out l e h a la = go (ℕ-discrete (key m) a)
           h (key m) l,
           keyed-step key v m a,
           pick-eq (key m) a (v m) q,
-          ap (λ (z : ℕ). keyed key v m z) q,
+          ap (λ (z : ℕ). keyed key v m z + g z) q,
         )
     go (no q) = omega (arith, getD-set-other out (key m) a (at out (key m) + v m) 0 (λ z. q (sym z)), h a la, keyed-step key v m a, pick-ne (key m) a (v m) q)
+
+-- the same, where it holds nothing else
+pub keyed-set : (key v : ℕ → ℕ) (m n : ℕ) (out : List ℕ) → key m < n → length out ≡ n
+    → ((a : ℕ) → a < n → at out a ≡ keyed key v m a)
+    → (a : ℕ) → a < n → at (set out (key m) (at out (key m) + v m)) a ≡ keyed key v (m + 1) a
+keyed-set key v m n out l e h a la =
+    omega (arith, keyed-beside key v (λ _. 0) m n out l e (λ b k. omega (arith, h b k)) a la)
