@@ -147,7 +147,7 @@ fn assign_rows(section: &[u8], keys: &mut [u64], demands: &[u32], out: &mut [u32
 {
     let n = section.len() / 16;
     order::sort(keys, n);
-    // Behind the sort, so that they can lie where its own scratch lay.
+    // Behind the sort, so that they can lie where earlier scratch lay.
     let mut placed = [0u32; 256];
     let mut amounts = [0u32; 256];
     gather(section, keys, n, &mut placed);
