@@ -110,9 +110,6 @@ module _ (bytes : List ℕ) (l : Lent) (b : Balance) (w : Weighed bytes b) where
           demand = rw h (rw weight at (w .demand));
         }
 
-    pub settled : (after : Lent) (x : Summary) → Outcome Verdict.Fine sheet l after x → Settled bytes l after x
-    settled after x o = rw fine (rw sheet-is at o)
-
 pub demands-are : (h : Sheet) (n : ℕ) (l : List ℕ) → agents h ≡ n → n ≤ mostAgents → Filled 0 zeros l n (commercial h) → take n l ≡ demands h
 unfolding demands
 demands-are h n l e few f = rw e (filled-front 0 zeros l n (commercial h) few f)

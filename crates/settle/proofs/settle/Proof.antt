@@ -12,13 +12,12 @@ use Rattle.hour.specs.Sheet.{Sheet, agents, plants}
 use Rattle.hour.specs.Sound.{Sound}
 use Rattle.hour.specs.Lines.{own, contracted}
 use Rattle.hour.specs.Answer.{Lent}
-use Rattle.hour.specs.declared.Summary.{Summary}
 use Rattle.hour.proofs.Bounds.{price-le}
 use Rattle.balance.proofs.Weighed.{weighed-accepted, weighed-few}
 use Rattle.settle.specs.Parts.{judged}
 use Rattle.settle.specs.Settled.{lent, verdictOf}
 use Rattle.settle.proofs.Stages.{front-fits, front-long, own-is, figures-are, money-are, lines-fit}
-use Rattle.settle.proofs.Judged.{verdict-is, Open, opened, settled, demands-are, turned-away}
+use Rattle.settle.proofs.Judged.{verdict-is, Open, opened, sheet-is, demands-are, turned-away}
 use Rattle.settle.proofs.settle.Statement.{statement}
 use Rattle.settle.proofs.settle.Tie as tie
 
@@ -74,8 +73,7 @@ returns-2 c =
     let f = figures-are h _ (count (c .before .before .before .before .before .before .before .before .before .before .before .before .before .before .before .before .before .before .before .before .before .before .before .before .before .before .before .before .before .before .before .before .before)) (b .kinds) (b .shares) o (b .imports) (r .result) (w .kinds .done) (w .shares .done) (owns (c .before .before .before .before .before .before .before .before .before .before .before .before)) (w .imports .done) (holds (c .before .before .before .before .before .before .before .before .before .before .before .before .before .before .before .before .before .before .before .before)) in
     let m = money-are h _ (count (c .before .before .before .before .before .before .before .before .before .before .before .before .before .before .before .before .before .before .before .before .before .before .before .before .before .before .before .before .before .before .before .before .before)) (b .kinds) (b .shares) o (b .imports) (r .result) (w .kinds .done) (w .shares .done) (owns (c .before .before .before .before .before .before .before .before .before .before .before .before)) (w .imports .done) (holds (c .before .before .before .before .before .before .before .before .before .before .before .before .before .before .before .before .before .before .before .before)) in
     let l = (c .before .before .before) .write-lines .ensures in
-    let x : Summary = record { number = 0; place = 0; price = (c .before .before .before .before .before .before .before .before .before .before .before .before .before .before .before .before .before .before .before .before .before .before .before .before .before .before) .generate .result .price; demand = b .demand; losses = b .losses } in
-    settled _ (lists (c .before .before .before .before .before .before .before .before .before .before .before .before .before .before .before .before .before .before .before .before .before .before .before .before .before .before .before .before .before .before .before .before .before .before .before .before .before .before)) b ((c .before .before .before .before .before .before .before .before .before .before .before .before .before .before .before .before .before .before .before .before .before .before .before .before .before .before .before .before .before .before .before .before .before) .weigh .ensures) (fine (c .before .before .before .before .before .before .before .before .before .before .before .before .before .before .before .before .before .before .before .before .before .before .before .before .before .before .before .before)) _ x
+    rw (fine (c .before .before .before .before .before .before .before .before .before .before .before .before .before .before .before .before .before .before .before .before .before .before .before .before .before .before .before .before), ← sheet-is _ (lists (c .before .before .before .before .before .before .before .before .before .before .before .before .before .before .before .before .before .before .before .before .before .before .before .before .before .before .before .before .before .before .before .before .before .before .before .before .before .before)) b ((c .before .before .before .before .before .before .before .before .before .before .before .before .before .before .before .before .before .before .before .before .before .before .before .before .before .before .before .before .before .before .before .before .before) .weigh .ensures) (fine (c .before .before .before .before .before .before .before .before .before .before .before .before .before .before .before .before .before .before .before .before .before .before .before .before .before .before .before .before)))
     (record {
       answered = rw (← g .price, ← w .demand, ← w .losses);
       figures = f _ _ (l .0);
