@@ -8,6 +8,7 @@ ghost use mathlib.Core.Path.{_≡_};
 ghost use mathlib.Core.Bool.{_&&_, _||_, not};
 ghost use Prim.Native.Nat.{ℕ, _+_, _-_, _≤_, _<_};
 ghost use lib.Dec.{ltb, eqb};
+ghost use lib.ListN.{length};
 ghost use Rattle.sums.specs.Sums.{sum, pick, first};
 ghost use Rattle.sums.specs.Lists.{at, Filled};
 ghost use Rattle.refusals.specs.Refusals.{cells};
@@ -34,12 +35,6 @@ pub struct Balance {
     pub demand: u32,
 }
 
-// What each agent took and delivered, referred to the national system.
-struct Readings {
-    imports: [u32; 64],
-    exports: [u32; 64],
-}
-
 // One reading, referred.
 fn refer(reading: u32, factor: u32) -> u32
     requires { ⌜ (reading ≤ mostEnergy) × (factor ≤ mostFactor) ⌝ }
@@ -49,28 +44,25 @@ fn refer(reading: u32, factor: u32) -> u32
 }
 
 // The kinds of the first n agents.
-fn kinds_of(s: &[u8], n: usize) -> [u32; 64]
-    requires { ⌜ n ≤ mostAgents ⌝ }
-    ensures { λ r. ⌜ Filled 0 zeros r n (λ a. agentOf (wordsAt (now (s .entry)) a) .kind) ⌝ }
+fn kinds_of(s: &[u8], n: usize, out: &mut [u32])
+    requires { ⌜ (n ≤ mostAgents) × (n ≤ length (now out)) ⌝ }
+    ensures { λ _. ⌜ Filled 0 (now (out .entry)) (now (out .exit)) n (λ a. agentOf (wordsAt (now (s .entry)) a) .kind) ⌝ }
 {
-    let mut out = [0u32; 64];
     let mut a = 0;
     while a < n {
         out[a] = rows::agent_of(rows::row_at(s, a)).kind;
         a += 1;
     }
-    out
 }
 
-// One pass over the boundary rows, with running sums by agent: each import and each export is referred by itself.
-fn meter(s: &[u8], c: Counts) -> Readings
+// What each agent took and delivered: one pass over the boundary rows, each import and each export referred by itself.
+fn meter(s: &[u8], c: Counts, imports: &mut [u32], exports: &mut [u32])
     requires { ⌜ readOf (now s) ≡ Reading.Accepted c ⌝ }
-    ensures { λ r. ⌜ Metered (columnsOf (now (s .entry)) c) (r .imports) (r .exports) ⌝ }
+    requires { ⌜ (now imports ≡ zeros) × (now exports ≡ zeros) ⌝ }
+    ensures { λ _. ⌜ Metered (columnsOf (now (s .entry)) c) (now (imports .exit)) (now (exports .exit)) ⌝ }
 {
     let start = c.agents;
     let n = c.boundaries;
-    let mut imports = [0u32; 64];
-    let mut exports = [0u32; 64];
     let mut j = 0;
     while j < n {
         let b = rows::boundary_of(rows::row_at(s, start + j));
@@ -79,7 +71,6 @@ fn meter(s: &[u8], c: Counts) -> Readings
         exports[a] = exports[a] + refer(b.export, b.factor);
         j += 1;
     }
-    Readings { imports, exports }
 }
 
 // v of a retailer, 0 of a generator.
@@ -97,46 +88,46 @@ fn of_generator(kind: u32, v: u32) -> u32
 }
 
 // A retailer's imports less its exports; nothing of a generator.
-fn consumptions(kinds: &[u32; 64], imports: &[u32; 64], exports: &[u32; 64], n: usize) -> [u32; 64]
-    requires { ⌜ n ≤ mostAgents ⌝ }
-    ensures { λ r. ⌜ Filled 0 zeros r n (λ a. pick (isRetailer (at (now (kinds .entry)) a)) (at (now (imports .entry)) a - at (now (exports .entry)) a)) ⌝ }
+fn consumptions(
+    kinds: &[u32; 64],
+    imports: &[u32; 64],
+    exports: &[u32; 64],
+    n: usize,
+    out: &mut [u32],
+)
+    requires { ⌜ (n ≤ mostAgents) × (n ≤ length (now out)) ⌝ }
+    ensures { λ _. ⌜ Filled 0 (now (out .entry)) (now (out .exit)) n (λ a. pick (isRetailer (at (now (kinds .entry)) a)) (at (now (imports .entry)) a - at (now (exports .entry)) a)) ⌝ }
 {
-    let mut out = [0u32; 64];
     let mut a = 0;
     while a < n {
         out[a] = of_retailer(kinds[a], sums::less(imports[a], exports[a]));
         a += 1;
     }
-    out
 }
 
 // A generator's imports; nothing of a retailer.
-fn own_imports(kinds: &[u32; 64], imports: &[u32; 64], n: usize) -> [u32; 64]
-    requires { ⌜ n ≤ mostAgents ⌝ }
-    ensures { λ r. ⌜ Filled 0 zeros r n (λ a. pick (not (isRetailer (at (now (kinds .entry)) a))) (at (now (imports .entry)) a)) ⌝ }
+fn own_imports(kinds: &[u32; 64], imports: &[u32; 64], n: usize, out: &mut [u32])
+    requires { ⌜ (n ≤ mostAgents) × (n ≤ length (now out)) ⌝ }
+    ensures { λ _. ⌜ Filled 0 (now (out .entry)) (now (out .exit)) n (λ a. pick (not (isRetailer (at (now (kinds .entry)) a))) (at (now (imports .entry)) a)) ⌝ }
 {
-    let mut out = [0u32; 64];
     let mut a = 0;
     while a < n {
         out[a] = of_generator(kinds[a], imports[a]);
         a += 1;
     }
-    out
 }
 
 // Two columns added.
-fn added(xs: &[u32; 64], ys: &[u32; 64], n: usize) -> [u32; 64]
-    requires { ⌜ n ≤ mostAgents ⌝ }
+fn added(xs: &[u32; 64], ys: &[u32; 64], n: usize, out: &mut [u32])
+    requires { ⌜ (n ≤ mostAgents) × (n ≤ length (now out)) ⌝ }
     requires { ⌜ ((a : ℕ) → a < n → at (now xs) a + at (now ys) a ≤ 4294967295) ⌝ }
-    ensures { λ r. ⌜ Filled 0 zeros r n (λ a. at (now (xs .entry)) a + at (now (ys .entry)) a) ⌝ }
+    ensures { λ _. ⌜ Filled 0 (now (out .entry)) (now (out .exit)) n (λ a. at (now (xs .entry)) a + at (now (ys .entry)) a) ⌝ }
 {
-    let mut out = [0u32; 64];
     let mut a = 0;
     while a < n {
         out[a] = xs[a] + ys[a];
         a += 1;
     }
-    out
 }
 
 // The sum of a column's first n cells.
@@ -234,11 +225,13 @@ fn weigh_read(s: &[u8], c: Counts) -> Balance
     ensures { λ r. ⌜ Balances (balanceVerdict (columnsOf (now (s .entry)) c)) c (columnsOf (now (s .entry)) c) r ⌝ }
 {
     let n = c.agents;
-    let kinds = kinds_of(s, n);
-    let readings = meter(s, c);
-    let imports = readings.imports;
-    let exports = readings.exports;
-    let consumption = consumptions(&kinds, &imports, &exports, n);
+    let mut kinds = [0u32; 64];
+    kinds_of(s, n, &mut kinds);
+    let mut imports = [0u32; 64];
+    let mut exports = [0u32; 64];
+    meter(s, c, &mut imports, &mut exports);
+    let mut consumption = [0u32; 64];
+    consumptions(&kinds, &imports, &exports, n, &mut consumption);
     let verdict = judge(&kinds, &imports, &exports, &consumption, n);
     let Verdict::Fine = verdict else {
         return turned_away(verdict);
@@ -246,8 +239,10 @@ fn weigh_read(s: &[u8], c: Counts) -> Balance
     let losses = total(&exports, n) - total(&imports, n);
     let mut shares = [0u32; 64];
     share::share(losses, &consumption[..n], &mut shares);
-    let commercial = added(&consumption, &shares, n);
-    let own = own_imports(&kinds, &imports, n);
+    let mut commercial = [0u32; 64];
+    added(&consumption, &shares, n, &mut commercial);
+    let mut own = [0u32; 64];
+    own_imports(&kinds, &imports, n, &mut own);
     let demand = total(&commercial, n) + total(&own, n);
     Balance {
         verdict,

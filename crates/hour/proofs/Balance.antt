@@ -133,6 +133,15 @@ module _ (s : Sheet) (ok : Sound s) where
   unfolding commercial consumption
   generator-demand a l e = omega (arith, pick-false (retails s a) (imported s a - exported s a) e, generator-share s a l e)
 
+  -- nobody has both: an agent's commercial demand and what its plants are scheduled to deliver, together, are its own energy
+  pub own-both : (a : ℕ) → a < agents s → keyed (at (s .holders)) (scheduled s) (plants s) a + commercial s a ≡ own s a
+  unfolding own
+  own-both a l = go (retails s a) refl
+    where
+      go : (t : Bool) → retails s a ≡ t → made s a + commercial s a ≡ cond t (commercial s a) (made s a)
+      go true e = omega (arith, retailer-made a e)
+      go false e = omega (arith, generator-demand a l e)
+
   -- one agent: what it buys and what others owe to it, against what it sells and what it owes
   even : (a : ℕ) → a < agents s → bought s a + (made s a + buys s a) ≡ sold s a + (commercial s a + ownImport s a + sells s a)
   unfolding bought sold own contracted

@@ -1,21 +1,21 @@
 -- What dispatch, contracts and the sums by agent give for the columns of a sound sheet is what the definitions say. Assumes nothing.
 use Prim.Native.Nat.{ℕ, _+_, _-_, _*_, _≤_, _<_}
 use native.Mathlib.Omega.{arith}
-use mathlib.Core.Bool.{cond}
+use native.Mathlib.Decide.{decLt}
 use mathlib.Core.List.{List}
 use mathlib.Core.Path.{_≡_, refl, ap, _∙_, sym}
 use lib.Dec.{ltb, eqb}
 use lib.IntN.{ℤ, pos}
 use lib.ListN.{length, take}
 use lib.Seq.{getD-take, length-take-le}
-use Rattle.sums.specs.Sums.{pick, keyed}
+use Rattle.sums.specs.Sums.{sum, pick, keyed}
 use Rattle.sums.specs.Lists.{at, Filled}
-use Rattle.sums.proofs.Sums.{peak-eq}
+use Rattle.sums.proofs.Sums.{sum-most, sum-term, peak-eq}
+use Rattle.sums.proofs.Lists.{zeros-at}
 use Rattle.sums.proofs.Keyed.{keyed-eq}
 use Rattle.sums.proofs.Fill.{filled-count, filled-by}
 use Rattle.refusals.specs.declared.Verdict.{Verdict}
 use Rattle.rows.specs.Limits.{mostAgents}
-use Rattle.rows.specs.Rows.{isRetailer}
 use Rattle.merit.specs.Merit.{hourPrice}
 use Rattle.dispatch.specs.Dispatch.{Dispatched, priceOf}
 use Rattle.dispatch.proofs.Dispatched.{dispatched-plain, price-plain}
@@ -23,9 +23,11 @@ use Rattle.hour.specs.Sheet.{Sheet, agents, plants, retails}
 use Rattle.hour.specs.Sound.{Sound}
 use Rattle.hour.specs.Balance.{lossShare, ownImport, commercial, hourDemand}
 use Rattle.hour.specs.Lines.{scheduled, price, own, contracted, bought, sold, money, figure}
+use Rattle.hour.proofs.Balance.{own-both}
 use Rattle.hour.proofs.Bounds.{scheduled-le, import-le, imported-le}
 use Rattle.hour.proofs.Fits.{contracted-le}
 use Rattle.hour.proofs.Cells.{figure-is}
+use Rattle.balance.specs.Balances.{zeros}
 use Rattle.settle.specs.Parts.{Countable, Tallied, Covered, buys, sells, lineCell, lineMoney}
 
 -- the front of a filled list, cell by cell
@@ -38,13 +40,18 @@ front-long before after n f r l = length-take-le n after (omega (arith, r .long)
 pub front-fits : (before after : List ℕ) (n : ℕ) (f : ℕ → ℕ) → Filled 0 before after n f → n ≤ length before → n ≤ length after
 front-fits before after n f r l = omega (arith, r .long)
 
+-- an agent's part of the hour's demand
+part-le : (h : Sheet) (a : ℕ) → a < agents h → commercial h a ≤ hourDemand h
+unfolding hourDemand
+part-le h a l = omega (arith, sum-term (agents h) a (λ k. commercial h k + ownImport h k) l)
+
 module _ (h : Sheet) (ok : Sound h) where
   -- ---- plants
   module _ (n : ℕ) (e : plants h ≡ n) where
-    pub scheduled-are : (os vs : List ℕ) (d : ℕ) (before : List ℕ) (r : Verdict) (after : List ℕ) → os ≡ h .offers → vs ≡ h .available
-        → Covered h d (length before) → Dispatched os vs d before r after → Filled 0 before after n (scheduled h)
+    pub scheduled-are : (os vs : List ℕ) (d : ℕ) (before cs : List ℕ) (r : Verdict) (after : List ℕ) → os ≡ h .offers → vs ≡ h .available
+        → Covered h d (length before) cs → Dispatched os vs d before r after → Filled 0 before after n (scheduled h)
     unfolding scheduled
-    scheduled-are os vs d before r after p q c w =
+    scheduled-are os vs d before cs r after p q c w =
         let k : Dispatched (h .offers) (h .available) (hourDemand h) before r after = rw (p, q, c .demand) at w in
         filled-count 0 _ _ _ _ _ e
         (dispatched-plain (h .offers) (h .available) (plants h) (ok .whole .offers) (ok .whole .available) (hourDemand h) before r after (c .enough) (c .fits) k .1)
@@ -58,26 +65,35 @@ module _ (h : Sheet) (ok : Sound h) where
           ∙ peak-eq (plants h) _ _
           (λ i m. ap (λ (x : ℕ). pick (eqb (at (h .flags) i) 0) (pick (ltb 0 x) (at (h .offers) i))) (front-at _ _ _ _ f i (omega arith))))
 
-      pub plants-count : (ks : List ℕ) → ks ≡ h .holders → Countable ks (take n after)
-      plants-count ks p =
+      pub plants-count : (ks os : List ℕ) → ks ≡ h .holders → length os ≡ mostAgents → ((a : ℕ) → a < mostAgents → at os a ≤ 3000000000) → Countable ks (take n after) os
+      plants-count ks os p cells small =
           rw p
           (record {
             few = omega (arith, ok .few .plants);
             long = omega (arith, front-long _ _ _ _ f l);
             agent = λ j m. omega (arith, ok .plant j m .there, ok .few .agents);
             value = λ j m. omega (arith, front-at _ _ _ _ f j (omega arith), scheduled-le h ok j m);
+            cells = cells;
+            small = small;
           })
 
-      pub made-is : (ks sums : List ℕ) → ks ≡ h .holders → Tallied ks (take n after) sums → (a : ℕ) → a < mostAgents
-          → at sums a ≡ keyed (at (h .holders)) (scheduled h) (plants h) a
-      made-is ks sums p t a m =
-          (rw p at t) a m ∙ keyed-eq _ _ _ _ (plants h) a (λ j k. refl) (λ j k. front-at _ _ _ _ f j (omega arith))
+      pub own-is : (ks ds os : List ℕ) → ks ≡ h .holders → Filled 0 zeros ds (agents h) (commercial h) → Tallied ks (take n after) ds os → (a : ℕ) → a < agents h
+          → at os a ≡ own h a
+      own-is ks ds os p c t a m =
+          let k : at os a ≡ keyed (at (h .holders)) (at (take n after)) (plants h) a + at ds a = (rw p at t) a (omega (arith, ok .few .agents)) in
+          let s = keyed-eq (at (h .holders)) (at (h .holders)) (at (take n after)) (scheduled h) (plants h) a (λ j q. refl) (λ j q. front-at _ _ _ _ f j (omega arith)) in
+          omega (arith, k, s, c .done a m, own-both h ok a m)
 
--- ---- an agent's own energy, by its kind
-module _ (h : Sheet) (a k x y : ℕ) (p : k ≡ at (h .kinds) a) where
-  pub own-is : x ≡ commercial h a → y ≡ keyed (at (h .holders)) (scheduled h) (plants h) a → cond (isRetailer k) x y ≡ own h a
-  unfolding own retails
-  own-is q r = rw (p, q, r)
+  -- a commercial demand is no more than the plants can deliver, and so leaves room for a schedule
+  pub demand-small : (d room : ℕ) (os : List ℕ) → Covered h d room os → (a : ℕ) → a < mostAgents → at os a ≤ 3000000000
+  demand-small d room os c a m = go (decLt a (agents h))
+    where
+      most : sum (plants h) (at (h .available)) ≤ 4000000 * plants h
+      most = sum-most (plants h) 4000000 (at (h .available)) (λ i l. ok .plant i l .available)
+
+      go : Dec (a < agents h) → at os a ≤ 3000000000
+      go (yes l) = omega (arith, c .commercial .done a l, part-le h a l, c .enough, most, ok .few .plants)
+      go (no l) = omega (arith, c .commercial .kept a (omega arith), zeros-at 64 a)
 
 -- ---- the lines of n agents, from their columns
 module _ (h : Sheet) (n : ℕ) (e : agents h ≡ n) (ks ss os is cs : List ℕ) (k : (a : ℕ) → a < n → at ks a ≡ at (h .kinds) a)

@@ -16,19 +16,21 @@ use Rattle.rows.specs.Rows.{isRetailer}
 use Rattle.balance.specs.Balances.{zeros}
 use Rattle.contracts.specs.Assign.{countIn, rowIn}
 use Rattle.hour.specs.Sheet.{Sheet, agents, plants, contracts}
-use Rattle.hour.specs.Balance.{demands, hourDemand}
-use Rattle.hour.specs.Lines.{scheduled, price, amount, contracted, moneyOf, cellOf}
+use Rattle.hour.specs.Balance.{commercial, demands, hourDemand}
+use Rattle.hour.specs.Lines.{scheduled, price, amount, own, contracted, moneyOf, cellOf}
 use Rattle.hour.specs.declared.Summary.{Summary}
 
--- ---- sums by agent
-pub record Countable (keys values : List ℕ) : Type 0 where
+-- ---- sums by agent, added to what stands in their cells: nothing overflows
+pub record Countable (keys values before : List ℕ) : Type 0 where
   pub few : length keys ≤ mostContracts
   pub long : length keys ≤ length values
   pub agent : (j : ℕ) → j < length keys → at keys j < mostAgents
   pub value : (j : ℕ) → j < length keys → at values j ≤ mostEnergy
+  pub cells : length before ≡ mostAgents
+  pub small : (a : ℕ) → a < mostAgents → at before a ≤ 3000000000
 
-abbrev pub Tallied : (keys values sums : List ℕ) → Type 0
-Tallied keys values sums = (a : ℕ) → a < mostAgents → at sums a ≡ keyed (at keys) (at values) (length keys) a
+abbrev pub Tallied : (keys values before after : List ℕ) → Type 0
+Tallied keys values before after = (a : ℕ) → a < mostAgents → at after a ≡ keyed (at keys) (at values) (length keys) a + at before a
 
 -- ---- an agent's line, from its kind and what it has
 abbrev pub buys : (kind own import contracted : ℕ) → ℕ
@@ -63,16 +65,17 @@ judged v d o room = firstOf (v ∷ refusedUnless (leb d o) uncovered 0 ∷ refus
 
 -- ---- the plants of the sheet h
 
--- the demand is the hour's, the plants cover it, and the lent list has a cell for each
-pub record Covered (h : Sheet) (d room : ℕ) : Type 0 where
+-- the demand is the hour's, the plants cover it, the lent list has a cell for each, and the commercial demands stand in os
+pub record Covered (h : Sheet) (d room : ℕ) (os : List ℕ) : Type 0 where
   pub demand : d ≡ hourDemand h
   pub enough : hourDemand h ≤ sum (plants h) (at (h .available))
   pub fits : plants h ≤ room
+  pub commercial : Filled 0 zeros os (agents h) (commercial h)
 
--- the price, what each agent made, and the schedule
-pub record Generates (h : Sheet) (x : ℕ) (ms before after : List ℕ) : Type 0 where
+-- the price, each agent's own energy, and the schedule
+pub record Generates (h : Sheet) (x : ℕ) (os before after : List ℕ) : Type 0 where
   pub price : x ≡ price h
-  pub made : (a : ℕ) → a < mostAgents → at ms a ≡ keyed (at (h .holders)) (scheduled h) (plants h) a
+  pub own : (a : ℕ) → a < agents h → at os a ≡ own h a
   pub schedule : Filled 0 before after (plants h) (scheduled h)
 
 -- ---- the contracts of the sheet h

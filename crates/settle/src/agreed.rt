@@ -5,15 +5,15 @@ ghost use lib.ListN.{length};
 ghost use Rattle.sheet.specs.Reading.{readOf};
 ghost use Rattle.sheet.specs.declared.Reading.{Reading};
 ghost use Rattle.columns.specs.Columns.{columnsOf};
+ghost use Rattle.balance.specs.Balances.{zeros};
 ghost use Rattle.settle.specs.Parts.{Holding, Held, Demanding, Agrees};
 
 // What each agent holds of the contracts of a section, bought and sold in one sum: nobody does both.
-fn hold(section: &[u8], amounts: &[u32]) -> [u32; 64]
-    requires { ⌜ Holding (now section) (now amounts) ⌝ }
-    ensures { λ r. ⌜ Held (now (section .entry)) (now (amounts .entry)) r ⌝ }
+fn hold(section: &[u8], amounts: &[u32], held: &mut [u32])
+    requires { ⌜ Holding (now section) (now amounts) × (now held ≡ zeros) ⌝ }
+    ensures { λ _. ⌜ Held (now (section .entry)) (now (amounts .entry)) (now (held .exit)) ⌝ }
 {
     let n = section.len() / 16;
-    let mut held = [0u32; 64];
     let mut j = 0;
     while j < n {
         let k = rows::contract_of(rows::row_at(section, j));
@@ -24,18 +24,23 @@ fn hold(section: &[u8], amounts: &[u32]) -> [u32; 64]
         held[seller] = held[seller] + amount;
         j += 1;
     }
-    held
 }
 
-// The amounts of all contracts into the lent list; what each agent holds under contract is handed back.
-pub(crate) fn agree(bytes: &[u8], c: Counts, demands: &[u32], amounts: &mut [u32]) -> [u32; 64]
+// The amounts of all contracts into the lent list, and what each agent holds under contract.
+pub(crate) fn agree(
+    bytes: &[u8],
+    c: Counts,
+    demands: &[u32],
+    amounts: &mut [u32],
+    contracted: &mut [u32],
+)
     requires { ⌜ readOf (now bytes) ≡ Reading.Accepted c ⌝ }
-    requires { ⌜ Demanding (columnsOf (now bytes) c) (now demands) (length (now amounts)) ⌝ }
-    ensures { λ r. ⌜ Agrees (columnsOf (now (bytes .entry)) c) r (now (amounts .entry)) (now (amounts .exit)) ⌝ }
+    requires { ⌜ Demanding (columnsOf (now bytes) c) (now demands) (length (now amounts)) × (now contracted ≡ zeros) ⌝ }
+    ensures { λ _. ⌜ Agrees (columnsOf (now (bytes .entry)) c) (now (contracted .exit)) (now (amounts .entry)) (now (amounts .exit)) ⌝ }
 {
     let start = 16 * (c.agents + c.boundaries + c.plants);
     let end = start + 16 * c.contracts;
     let section = &bytes[start..end];
     contracts::assign(section, demands, amounts);
-    hold(section, amounts)
+    hold(section, amounts, contracted);
 }

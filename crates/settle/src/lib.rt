@@ -82,11 +82,11 @@ pub fn settle(
     if let Verdict::Refused(r) = verdict {
         return turned_away(r);
     }
-    let g = plants::generate(bytes, c, demand, schedule);
-    let price = g.price;
     let commercial = b.commercial;
-    let contracted = agreed::agree(bytes, c, &commercial[..n], amounts);
-    let own = tally::by_kind(&b.kinds, &commercial, &g.made, n);
+    let mut own = commercial;
+    let price = plants::generate(bytes, c, demand, schedule, &mut own);
+    let mut contracted = [0u32; 64];
+    agreed::agree(bytes, c, &commercial[..n], amounts, &mut contracted);
     lines::write_lines(
         &b.kinds,
         &b.shares,

@@ -14,12 +14,6 @@ ghost use Rattle.hour.specs.Sheet.{plants};
 ghost use Rattle.hour.specs.Balance.{hourDemand};
 ghost use Rattle.settle.specs.Parts.{Covered, Generates};
 
-// The bolsa price, and each agent's schedule.
-pub(crate) struct Generation {
-    pub(crate) price: u32,
-    pub(crate) made: [u32; 64],
-}
-
 // All availabilities together.
 pub(crate) fn offered(bytes: &[u8], c: Counts) -> u32
     requires { ⌜ readOf (now bytes) ≡ Reading.Accepted c ⌝ }
@@ -65,11 +59,18 @@ fn columns(
     }
 }
 
-// The schedule into the lent list.
-pub(crate) fn generate(bytes: &[u8], c: Counts, demand: u32, schedule: &mut [u32]) -> Generation
+// The schedule into the lent list, and each generator's into its own energy, which has the commercial demands already: nobody has
+// both. The bolsa price is handed back.
+pub(crate) fn generate(
+    bytes: &[u8],
+    c: Counts,
+    demand: u32,
+    schedule: &mut [u32],
+    own: &mut [u32],
+) -> u32
     requires { ⌜ readOf (now bytes) ≡ Reading.Accepted c ⌝ }
-    requires { ⌜ Covered (columnsOf (now bytes) c) demand (length (now schedule)) ⌝ }
-    ensures { λ r. ⌜ Generates (columnsOf (now (bytes .entry)) c) (r .price) (r .made) (now (schedule .entry)) (now (schedule .exit)) ⌝ }
+    requires { ⌜ Covered (columnsOf (now bytes) c) demand (length (now schedule)) (now own) ⌝ }
+    ensures { λ r. ⌜ Generates (columnsOf (now (bytes .entry)) c) r (now (own .exit)) (now (schedule .entry)) (now (schedule .exit)) ⌝ }
 {
     let n = c.plants;
     let mut holders = [0u32; 64];
@@ -85,7 +86,6 @@ pub(crate) fn generate(bytes: &[u8], c: Counts, demand: u32, schedule: &mut [u32
         &mut available,
     );
     dispatch::dispatch(&offers[..n], &available[..n], demand, schedule);
-    let price = dispatch::price(&offers[..n], &flags[..n], &schedule[..n]);
-    let made = tally::tally(&holders[..n], &schedule[..n]);
-    Generation { price, made }
+    tally::tally(&holders[..n], &schedule[..n], own);
+    dispatch::price(&offers[..n], &flags[..n], &schedule[..n])
 }

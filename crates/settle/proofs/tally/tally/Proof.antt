@@ -1,60 +1,64 @@
 use borrow.Author.Needs.{needs}
 use native.Mathlib.Omega.{arith}
-use Prim.Native.Nat.{ℕ, _≤_, _<_, _-_}
+use Prim.Native.Nat.{ℕ, _≤_, _<_, _+_, _-_}
 use mathlib.Core.Path.{_≡_, _∙_, sym}
 use lib.ListN.{length, length-set}
 use Rattle.sums.specs.Sums.{keyed}
 use Rattle.sums.specs.Lists.{at}
-use Rattle.sums.proofs.Lists.{zeros-at}
-use Rattle.sums.proofs.Keyed.{keyed-none, keyed-set, keyed-most}
+use Rattle.sums.proofs.Keyed.{keyed-none, keyed-beside, keyed-most}
 use Rattle.settle.proofs.tally.tally.Statement.{statement}
 use Rattle.settle.proofs.tally.tally.Tie as tie
 
 abbrev Inv-loop : tie.InvT-loop
-Inv-loop keys values n out₀ j₀ out j = (j ≤ n) × (length out ≡ 64) × ((a : ℕ) → a < 64 → at out a ≡ keyed (at keys) (at values) j a)
+Inv-loop keys values out₀ n j₀ out j = (j ≤ n) × (length out ≡ 64) × ((a : ℕ) → a < 64 → at out a ≡ keyed (at keys) (at values) j a + at out₀ a)
 
 abbrev μ-loop : tie.MeasureT-loop
-μ-loop keys values n out₀ j₀ out j = n - j
+μ-loop keys values out₀ n j₀ out j = n - j
 
 -- row j names an agent
 there : (c : tie.In-loop Inv-loop μ-loop) → at ((c .before .before) .args .keys .now) ((c .before) .loop .j) < 64
 there c = (c .before .before) .pre .agent ((c .before) .loop .j) (omega arith)
 
 loop-holds : tie.Need-loop-holds Inv-loop μ-loop
-loop-holds c = (search needs, search needs, λ a l. zeros-at 64 a ∙ sym (keyed-none _ _ a))
+loop-holds c = (omega arith, c .pre .cells, λ a l. omega (arith, keyed-none (at (c .args .keys .now)) (at (c .args .values .now)) a))
 
 cast-a : tie.Need-cast-a Inv-loop μ-loop
-cast-a c = omega (arith, there ((c .before)))
+cast-a c = omega (arith, there (c .before))
 
 mul-out : tie.Need-mul-out Inv-loop μ-loop
-mul-out c = omega (arith, there ((c .before)))
+mul-out c = omega (arith, there (c .before), (c .before .before) .loop .inv .1)
 
-array-read-out : tie.Need-array-read-out Inv-loop μ-loop
-array-read-out c = omega (arith, there ((c .before)))
+slice-read-out : tie.Need-slice-read-out Inv-loop μ-loop
+slice-read-out c = omega (arith, there (c .before .before), (c .before .before .before) .loop .inv .1)
 
 add-out : tie.Need-add-out Inv-loop μ-loop
 add-out c =
-    let l = (c .before .before .before) .loop in
-    let a = (c .before .before .before .before) .args in
+    let l = (c .before .before .before .before) .loop in
+    let a = (c .before .before .before .before .before) .args in
     let k = at (a .keys .now) (l .j) in
     omega (
       arith,
-      l .inv .2 k (there ((c .before .before))),
-      (c .before .before .before .before) .pre .value (l .j) (omega arith),
-      keyed-most (at (a .keys .now)) (at (a .values .now)) (l .j) k 4000000 (λ j m. (c .before .before .before .before) .pre .value j (omega arith)),
+      l .inv .2 k (there (c .before .before .before)),
+      (c .before .before .before .before .before) .pre .value (l .j) (omega arith),
+      (c .before .before .before .before .before) .pre .small k (there (c .before .before .before)),
+      (c .before .before .before .before .before) .pre .few,
+      keyed-most (at (a .keys .now)) (at (a .values .now)) (l .j) k 4000000 (λ j m. (c .before .before .before .before .before) .pre .value j (omega arith)),
     )
 
 mul-out-3 : tie.Need-mul-out-3 Inv-loop μ-loop
-mul-out-3 c = omega (arith, there ((c .before .before)))
+mul-out-3 c = omega (arith, there (c .before .before .before), (c .before .before .before .before) .loop .inv .1)
 
-array-write-out : tie.Need-array-write-out Inv-loop μ-loop
-array-write-out c = omega (arith, there ((c .before .before)))
+slice-write-out : tie.Need-slice-write-out Inv-loop μ-loop
+slice-write-out c = omega (arith, there (c .before .before .before), (c .before .before .before .before) .loop .inv .1)
 
 loop-again : tie.Need-loop-again Inv-loop μ-loop
 loop-again c =
-    let l = (c .before .before .before) .loop in
-    let a = (c .before .before .before .before) .args in
-    (search needs, simp length-set (l .inv .1), keyed-set (at (a .keys .now)) (at (a .values .now)) (l .j) 64 (l .out) (there ((c .before .before))) (l .inv .1) (l .inv .2))
+    let l = (c .before .before .before .before) .loop in
+    let a = (c .before .before .before .before .before) .args in
+    (omega arith, simp length-set (l .inv .1), keyed-beside (at (a .keys .now)) (at (a .values .now)) (at (a .out .now)) (l .j) 64 (l .out) (there (c .before .before .before)) (l .inv .1) (l .inv .2))
+
+same-length : tie.Need-same-length Inv-loop μ-loop
+same-length c = (c .before) .loop .inv .1 ∙ sym ((c .before .before) .pre .cells)
 
 returns : tie.Need-returns Inv-loop μ-loop
 returns c = let e : (c .before) .loop .j ≡ length ((c .before .before) .args .keys .now) = omega arith in rw e at ((c .before) .loop .inv .2)
@@ -62,6 +66,6 @@ returns c = let e : (c .before) .loop .j ≡ length ((c .before .before) .args .
 pub tally-spec : {M : Type 1} → statement M
 tally-spec =
     tie.close
-    (tie.spec Inv-loop μ-loop loop-holds (λ c. search needs) (λ c. search needs) cast-a mul-out array-read-out
-    (λ c. search needs) (λ c. search needs) add-out mul-out-3 array-write-out (λ c. search needs)
-    (λ c. search needs) loop-again returns)
+    (tie.spec Inv-loop μ-loop loop-holds (λ c. search needs) (λ c. search needs) cast-a mul-out slice-read-out
+    (λ c. search needs) (λ c. search needs) add-out mul-out-3 slice-write-out (λ c. search needs)
+    (λ c. search needs) loop-again same-length returns)
