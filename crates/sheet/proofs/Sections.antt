@@ -1,22 +1,25 @@
--- Laws of sections by their number, and of a row's answer. Assumes nothing.
-use Prim.Native.Nat.{ℕ, _+_, _*_, _%_, _≤_, _<_}
-use mathlib.Core.Path.{_≡_, refl, sym, ap, _∙_}
+-- Laws of sections by their number, and of reading. Assumes nothing.
+use Prim.Native.Nat.{ℕ, zero, suc, _+_, _*_, _/_, _%_, _≤_, _<_}
+use mathlib.Core.Path.{_≡_, refl, sym, ap, _∙_, fun-ext}
 use mathlib.Core.Bool.{Bool, true, false, _&&_, cond}
 use mathlib.Core.List.{List}
 use native.Mathlib.Omega.{arith}
-use lib.ListN.{length, take, drop, length-take, length-drop}
+use native.Mathlib.Decide.{decLt}
+use lib.ListN.{length, take, drop}
 use lib.Dec.{leb, eqb}
-use borrow.Author.Tests.{leb-true, lt-ltb}
-use Rattle.refusals.specs.Refusals.{badLength, badLayout, refusal}
+use borrow.Author.Tests.{leb-true, eqb-true, lt-ltb, le-ltb}
+use Rattle.refusals.specs.Refusals.{badLength, badLayout, refusal, firstBad}
 use Rattle.refusals.specs.declared.Verdict.{Verdict}
-use Rattle.rows.proofs.Good.{and-left}
-use Rattle.sheet.specs.Reading.{trailerStart, contractStart, sheetLength, lengthGood, countsOf, countsGood, distancesGood, layoutGood, readVerdict, reading, readOf}
-use Rattle.sheet.specs.Asking.{rowsIn, rowsBefore, rowRead, verdictIn, rowVerdict, sectionVerdict, rowsVerdict, sectionOf, isSection, fieldsAt, askedRow, rowOf, rowIn}
+use Rattle.rows.specs.Bytes.{wordsOf, wordsAt}
+use Rattle.rows.specs.Rows.{agentOf}
+use Rattle.rows.proofs.Good.{and-left, and-right}
+use Rattle.rows.proofs.Stretch.{stretch-length, stretch-row}
+use Rattle.sheet.specs.Reading.{trailerStart, contractStart, sheetLength, lengthGood, countsOf, countsGood, distancesGood, layoutGood, kindAt, agentVerdict, boundaryVerdict, plantVerdict, contractVerdict, readVerdict, reading, readOf}
+use Rattle.sheet.specs.Asking.{rowsIn, rowsBefore, kindIn, rowGood, toldIn, rowVerdict, sectionVerdict, rowsVerdict, sectionOf, isSection, fieldsAt, askedRow, rowOf, rowIn}
 use Rattle.sheet.specs.declared.Counts.{Counts}
-use Rattle.sheet.specs.declared.Fields.{Fields}
 use Rattle.sheet.specs.declared.Reading.{Reading}
 use Rattle.sheet.specs.declared.RowRead.{RowRead}
-use Rattle.sheet.proofs.Accepted.{Few, good-few, accepted-length}
+use Rattle.sheet.proofs.Accepted.{Few, good-few, kind-of, no-kind, accepted-length}
 
 -- a section's rows are among the sheet's
 pub section-within : (c : Counts) (k : ℕ) → rowsBefore c k + rowsIn c k ≤ trailerStart c
@@ -33,19 +36,16 @@ section-within c k = go (eqb k 1) (eqb k 2) (eqb k 3) (eqb k 4)
     go false false false true = omega arith
     go false false false false = omega arith
 
--- a row's verdict is in its answer
-verdict-in-read : (v : Verdict) (f : Fields) → verdictIn (rowRead v f) ≡ v
-verdict-in-read Verdict.Fine f = refl
-verdict-in-read (Verdict.Refused r) f = refl
-
-pub read-verdict : (a : RowRead) (v : Verdict) (f : Fields) → a ≡ rowRead v f → v ≡ verdictIn a
-read-verdict a v f e = sym (ap verdictIn e ∙ verdict-in-read v f)
-
 -- ---- reading, step by step
 pub has-trailer : (n : ℕ) → lengthGood n ≡ true → 32 ≤ n
 has-trailer n e = leb-true _ _ (and-left (leb 32 n) (leb n 10272) (and-left (leb 32 n && leb n 10272) (eqb (n % 16) 0) e))
 
 module _ (s : List ℕ) where
+  -- the agents' rows are the sheet's first
+  agents-told : (c : Counts) → rowVerdict s c 1 ≡ agentVerdict s c
+  unfolding rowVerdict rowGood rowsBefore agentVerdict
+  agents-told c = fun-ext (λ i. let z : 0 + i ≡ i = omega arith in rw z)
+
   pub read-short : lengthGood (length s) ≡ false → readOf s ≡ Reading.Refused (refusal badLength 0)
   unfolding readOf readVerdict
   read-short e = rw e
@@ -56,16 +56,76 @@ module _ (s : List ℕ) where
     read-crooked h = rw (e, h)
 
     pub read-rows : layoutGood s ≡ true → readOf s ≡ reading (rowsVerdict s (countsOf s)) (countsOf s)
-    unfolding readOf readVerdict rowsVerdict sectionVerdict rowVerdict rowsIn
-    read-rows h = rw (e, h)
+    unfolding readOf readVerdict rowsVerdict sectionVerdict rowVerdict rowGood rowsIn rowsBefore agentVerdict boundaryVerdict plantVerdict contractVerdict
+    read-rows h = rw (e, h, agents-told (countsOf s))
 
-  -- a good layout has few rows
+  -- a good layout has few rows, and the length that they ask for
   pub layout-few : layoutGood s ≡ true → Few (countsOf s)
   unfolding layoutGood
   layout-few e =
       let c = countsOf s in
       let l = eqb (length s) (sheetLength c) in
       good-few c (and-left (countsGood c) l (and-left (countsGood c && l) (distancesGood s c) e))
+
+  pub layout-long : layoutGood s ≡ true → length s ≡ sheetLength (countsOf s)
+  unfolding layoutGood
+  layout-long e =
+      let c = countsOf s in
+      let l = eqb (length s) (sheetLength c) in
+      eqb-true _ _ (and-right (countsGood c) l (and-left (countsGood c && l) (distancesGood s c) e))
+
+-- rows that are told the same have the same first refusal
+first-same : (f g : ℕ → Verdict) (n i : ℕ) → ((j : ℕ) → j < i + n → f j ≡ g j) → firstBad f i n ≡ firstBad g i n
+unfolding firstBad
+first-same f g zero i h = refl
+first-same f g (suc n) i h = rw (h i (omega arith), first-same f g n (suc i) (λ j l. h j (omega arith)))
+
+-- ---- the sections, cut out of the sheet
+no-row : (s : List ℕ) (r : ℕ) → length s / 16 ≤ r → wordsAt s r ≡ wordsOf 0 0 0 0
+unfolding wordsAt
+no-row s r h = rw (le-ltb _ _ h)
+
+module _ (s : List ℕ) (c : Counts) (e : length s ≡ sheetLength c) where
+  within : (k : ℕ) → 16 * rowsBefore c k + 16 * rowsIn c k ≤ length s
+  within k = omega (arith, section-within c k)
+
+  -- a section has all the bytes of its rows
+  pub part-length : (k : ℕ) → length (sectionOf s c k) ≡ 16 * rowsIn c k
+  unfolding sectionOf
+  part-length k = stretch-length s (rowsBefore c k) (rowsIn c k) (within k)
+
+  pub part-count : (k : ℕ) → length (sectionOf s c k) / 16 ≡ rowsIn c k
+  part-count k = omega (arith, part-length k)
+
+  part-row : (k i : ℕ) → i < rowsIn c k → wordsAt (sectionOf s c k) i ≡ wordsAt s (rowsBefore c k + i)
+  unfolding sectionOf
+  part-row k i h = stretch-row s (rowsBefore c k) (rowsIn c k) (within k) i h
+
+  -- an agent's kind is in the agents' section
+  part-kind : (a : ℕ) → kindIn (sectionOf s c 1) a ≡ kindAt s c a
+  unfolding rowsIn rowsBefore
+  part-kind a = go (decLt a (c .agents))
+    where
+      go : Dec (a < c .agents) → kindIn (sectionOf s c 1) a ≡ kindAt s c a
+      go (yes h) =
+          let z : 0 + a ≡ a = omega arith in
+          ap (λ w. agentOf w .kind) (part-row 1 a h) ∙ ap (λ j. agentOf (wordsAt s j) .kind) z ∙ sym (kind-of s c a h)
+      go (no h) =
+          let l : length (sectionOf s c 1) / 16 ≤ a = omega (arith, part-count 1) in
+          ap (λ w. agentOf w .kind) (no-row (sectionOf s c 1) a l) ∙ sym (no-kind s c a (omega arith))
+
+  part-kinds : kindIn (sectionOf s c 1) ≡ kindAt s c
+  part-kinds = fun-ext part-kind
+
+  -- what a row is told by the sections is what it is told by the sheet
+  row-told : (k i : ℕ) → i < rowsIn c k → toldIn (sectionOf s c 1) (sectionOf s c k) k i ≡ rowVerdict s c k i
+  unfolding rowVerdict
+  row-told k i h = rw (part-row k i h, part-kinds)
+
+  pub section-told : (k : ℕ)
+      → firstBad (toldIn (sectionOf s c 1) (sectionOf s c k) k) 0 (length (sectionOf s c k) / 16) ≡ sectionVerdict s c k
+  unfolding sectionVerdict
+  section-told k = rw (part-count k) (first-same _ _ (rowsIn c k) 0 (λ i h. row-told k i (omega arith)))
 
 -- section 4 is the contracts' bytes
 pub section-contracts : (s : List ℕ) (c : Counts) → sectionOf s c 4 ≡ take (16 * c .contracts) (drop (16 * contractStart c) s)
@@ -76,8 +136,7 @@ section-contracts s c = refl
 module _ (s : List ℕ) (c : Counts) (e : readOf s ≡ Reading.Accepted c) where
   -- a section has all the bytes of its rows
   pub section-length : (k : ℕ) → length (sectionOf s c k) ≡ 16 * rowsIn c k
-  unfolding sectionOf
-  section-length k = simp (length-take, length-drop) (omega (arith, accepted-length s c e, section-within c k))
+  section-length = part-length s c (accepted-length s c e)
 
   -- a row that is there is handed back
   pub row-there : (k i : ℕ) → isSection k ≡ true → i < rowsIn c k → rowIn (readOf s) s k i ≡ RowRead.Row (fieldsAt s c k i)

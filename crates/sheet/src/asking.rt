@@ -2,7 +2,7 @@
 ghost use mathlib.Core.Path.{_≡_};
 ghost use Prim.Native.Nat.{_<_};
 ghost use Rattle.sheet.specs.Reading.{trailerStart, Placeable, readOf};
-ghost use Rattle.sheet.specs.Asking.{rowsBefore, fieldsAt, askedSection, askedRow, rowOf, sectionOf, rowIn, sectionIn, sectionAnswer};
+ghost use Rattle.sheet.specs.Asking.{fieldsAt, askedSection, askedRow, rowOf, sectionOf, rowIn, sectionIn, sectionAnswer};
 ghost use Rattle.sheet.specs.declared.Reading.{Reading};
 use crate::Counts;
 use crate::Fields;
@@ -12,25 +12,12 @@ use crate::agent_fields;
 use crate::boundary_fields;
 use crate::contract_fields;
 use crate::opened::kept_row;
+use crate::part_of;
 use crate::plant_fields;
 use crate::read;
 use crate::rows_in;
 use refusals::Refusal;
 use refusals::Verdict;
-
-// The rows that stand before section k.
-fn rows_before(c: Counts, k: u32) -> usize
-    requires { ⌜ Placeable (trailerStart c) ⌝ }
-    ensures { λ r. ⌜ r ≡ rowsBefore c k ⌝ }
-{
-    match k {
-        1 => 0,
-        2 => c.agents,
-        3 => c.agents + c.boundaries,
-        4 => c.agents + c.boundaries + c.plants,
-        _ => 0,
-    }
-}
 
 fn fields_at(s: &[u8], c: Counts, k: u32, i: usize) -> Fields
     requires { ⌜ Placeable (trailerStart c) × Placeable i ⌝ }
@@ -92,14 +79,12 @@ pub(crate) fn row_of(s: &[u8], c: Counts, k: u32, i: u32) -> RowRead
     RowRead::Refused(why)
 }
 
-// Section k of an accepted sheet: that stretch of the caller's own bytes, empty where there is no such section.
+// Section k of an accepted sheet.
 pub(crate) fn section_of(s: &[u8], c: Counts, k: u32) -> &[u8]
     requires { ⌜ readOf (now s) ≡ Reading.Accepted c ⌝ }
     ensures { λ r. ⌜ now r ≡ sectionOf (now (s .entry)) c k ⌝ }
 {
-    let a = 16 * rows_before(c, k);
-    let e = a + 16 * rows_in(c, k);
-    &s[a..e]
+    part_of(s, c, k)
 }
 
 // Row i of section k of any bytes: reading's refusals first.

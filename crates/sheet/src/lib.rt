@@ -2,15 +2,15 @@
 ghost use mathlib.Core.Path.{_≡_};
 ghost use Prim.Native.Nat.{_+_, _*_, _≤_, _<_};
 ghost use lib.ListN.{length};
-ghost use Rattle.refusals.specs.Refusals.{refusedUnless};
-ghost use Rattle.sheet.specs.Reading.{trailerStart, Addable, Placeable, lengthGood, countsOf, countsGood, distancesGood, layoutGood, kindAt, agentVerdict, boundaryVerdict, plantVerdict, contractVerdict, readOf};
-ghost use Rattle.sheet.specs.Asking.{rowsIn, agentFields, boundaryFields, plantFields, contractFields, agentAt, boundaryAt, plantAt, contractAt, fieldsAt, rowVerdict, sectionVerdict, rowsVerdict, rowRead, verdictIn, fieldsIn};
+ghost use Rattle.sheet.specs.Reading.{trailerStart, Addable, Placeable, Laid, lengthGood, countsOf, countsGood, distancesGood, layoutGood, readOf};
+ghost use Rattle.sheet.specs.Asking.{rowsIn, rowsBefore, sectionOf, agentFields, boundaryFields, plantFields, contractFields, verdictIn, fieldsIn, kindIn, agentRowGood, boundaryRowGood, plantRowGood, contractRowGood, rowGood, toldIn, sectionVerdict, rowsVerdict};
 use refusals::Refusal;
 use refusals::Verdict;
 use rows::Agent;
 use rows::Boundary;
 use rows::Contract;
 use rows::Plant;
+use rows::Words;
 
 pub mod asking;
 pub mod opened;
@@ -117,19 +117,6 @@ fn layout_good(s: &[u8], c: Counts) -> bool
     counts_good(c) & (s.len() == size(c)) & distances_good(s, c)
 }
 
-// The kind of agent a, 0 where there is no such agent.
-fn kind_at(s: &[u8], c: Counts, a: u32) -> u32
-    ensures { λ r. ⌜ r ≡ kindAt (now (s .entry)) c a ⌝ }
-{
-    let i = a as usize;
-    if i < c.agents {
-        let agent = rows::agent_of(rows::row_at(s, i));
-        agent.kind
-    } else {
-        0
-    }
-}
-
 // A row's fields as five numbers.
 pub(crate) fn agent_fields(a: Agent) -> Fields
     ensures { λ r. ⌜ r ≡ agentFields a ⌝ }
@@ -179,61 +166,6 @@ pub(crate) fn contract_fields(k: Contract) -> Fields
     }
 }
 
-// The row, or its refusal where its test fails.
-fn judged(ok: bool, number: u32, i: usize, f: Fields) -> RowRead
-    requires { ⌜ Placeable i ⌝ }
-    ensures { λ r. ⌜ r ≡ rowRead (refusedUnless ok number i) f ⌝ }
-{
-    if ok {
-        RowRead::Row(f)
-    } else {
-        RowRead::Refused(Refusal {
-            number,
-            place: i as u32,
-        })
-    }
-}
-
-fn agent_row(s: &[u8], c: Counts, i: usize) -> RowRead
-    requires { ⌜ Placeable i ⌝ }
-    ensures { λ r. ⌜ r ≡ rowRead (agentVerdict (now (s .entry)) c i) (agentFields (agentAt (now (s .entry)) c i)) ⌝ }
-{
-    let w = rows::row_at(s, i);
-    let a = rows::agent_of(w);
-    let ok = rows::agent_blank(w) & rows::agent_good(a);
-    judged(ok, Refusal::AGENT, i, agent_fields(a))
-}
-
-fn boundary_row(s: &[u8], c: Counts, i: usize) -> RowRead
-    requires { ⌜ Addable c × Placeable i ⌝ }
-    ensures { λ r. ⌜ r ≡ rowRead (boundaryVerdict (now (s .entry)) c i) (boundaryFields (boundaryAt (now (s .entry)) c i)) ⌝ }
-{
-    let w = rows::row_at(s, c.agents + i);
-    let b = rows::boundary_of(w);
-    let ok = rows::row_blank(w) & rows::boundary_good(kind_at(s, c, b.agent), b);
-    judged(ok, Refusal::BOUNDARY, i, boundary_fields(b))
-}
-
-fn plant_row(s: &[u8], c: Counts, i: usize) -> RowRead
-    requires { ⌜ Addable c × Placeable i ⌝ }
-    ensures { λ r. ⌜ r ≡ rowRead (plantVerdict (now (s .entry)) c i) (plantFields (plantAt (now (s .entry)) c i)) ⌝ }
-{
-    let w = rows::row_at(s, c.agents + c.boundaries + i);
-    let p = rows::plant_of(w);
-    let ok = rows::row_blank(w) & rows::plant_good(kind_at(s, c, p.agent), p);
-    judged(ok, Refusal::PLANT, i, plant_fields(p))
-}
-
-fn contract_row(s: &[u8], c: Counts, i: usize) -> RowRead
-    requires { ⌜ Addable c × Placeable i ⌝ }
-    ensures { λ r. ⌜ r ≡ rowRead (contractVerdict (now (s .entry)) c i) (contractFields (contractAt (now (s .entry)) c i)) ⌝ }
-{
-    let w = rows::row_at(s, c.agents + c.boundaries + c.plants + i);
-    let k = rows::contract_of(w);
-    let ok = rows::contract_good(kind_at(s, c, k.seller), kind_at(s, c, k.buyer), k);
-    judged(ok, Refusal::CONTRACT, i, contract_fields(k))
-}
-
 // Sections by their number: 1 agents, 2 boundaries, 3 plants, 4 contracts.
 pub(crate) fn rows_in(c: Counts, k: u32) -> usize
     ensures { λ r. ⌜ r ≡ rowsIn c k ⌝ }
@@ -247,24 +179,28 @@ pub(crate) fn rows_in(c: Counts, k: u32) -> usize
     }
 }
 
-// Row i of section k, or why it is refused.
-fn read_row(s: &[u8], c: Counts, k: u32, i: usize) -> RowRead
-    requires { ⌜ Addable c × Placeable i ⌝ }
-    ensures { λ r. ⌜ r ≡ rowRead (rowVerdict (now (s .entry)) c k i) (fieldsAt (now (s .entry)) c k i) ⌝ }
+// The rows that stand before section k.
+fn rows_before(c: Counts, k: u32) -> usize
+    requires { ⌜ Placeable (trailerStart c) ⌝ }
+    ensures { λ r. ⌜ r ≡ rowsBefore c k ⌝ }
 {
     match k {
-        1 => agent_row(s, c, i),
-        2 => boundary_row(s, c, i),
-        3 => plant_row(s, c, i),
-        4 => contract_row(s, c, i),
-        _ => RowRead::Row(Fields {
-            first: 0,
-            second: 0,
-            third: 0,
-            fourth: 0,
-            fifth: 0,
-        }),
+        1 => 0,
+        2 => c.agents,
+        3 => c.agents + c.boundaries,
+        4 => c.agents + c.boundaries + c.plants,
+        _ => 0,
     }
+}
+
+// Section k: that stretch of the caller's own bytes, empty where there is no such section.
+pub(crate) fn part_of(s: &[u8], c: Counts, k: u32) -> &[u8]
+    requires { ⌜ Laid (now s) c ⌝ }
+    ensures { λ r. ⌜ now r ≡ sectionOf (now (s .entry)) c k ⌝ }
+{
+    let a = 16 * rows_before(c, k);
+    let e = a + 16 * rows_in(c, k);
+    &s[a..e]
 }
 
 // What an answer says of the row: nothing, or the refusal.
@@ -293,16 +229,78 @@ pub fn fields_in(a: RowRead) -> Fields
     }
 }
 
-// The rows of section k: the first bad one ends the reading.
+// The kind of agent a by the agents' section: 0 where there is no such agent.
+fn kind_in(agents: &[u8], a: u32) -> u32
+    ensures { λ r. ⌜ r ≡ kindIn (now (agents .entry)) a ⌝ }
+{
+    let agent = rows::agent_of(rows::row_at(agents, a as usize));
+    agent.kind
+}
+
+fn agent_row_good(w: Words) -> bool
+    ensures { λ r. ⌜ r ≡ agentRowGood w ⌝ }
+{
+    rows::agent_blank(w) & rows::agent_good(rows::agent_of(w))
+}
+
+fn boundary_row_good(agents: &[u8], w: Words) -> bool
+    ensures { λ r. ⌜ r ≡ boundaryRowGood (kindIn (now (agents .entry))) w ⌝ }
+{
+    let b = rows::boundary_of(w);
+    rows::row_blank(w) & rows::boundary_good(kind_in(agents, b.agent), b)
+}
+
+fn plant_row_good(agents: &[u8], w: Words) -> bool
+    ensures { λ r. ⌜ r ≡ plantRowGood (kindIn (now (agents .entry))) w ⌝ }
+{
+    let p = rows::plant_of(w);
+    rows::row_blank(w) & rows::plant_good(kind_in(agents, p.agent), p)
+}
+
+fn contract_row_good(agents: &[u8], w: Words) -> bool
+    ensures { λ r. ⌜ r ≡ contractRowGood (kindIn (now (agents .entry))) w ⌝ }
+{
+    let k = rows::contract_of(w);
+    rows::contract_good(kind_in(agents, k.seller), kind_in(agents, k.buyer), k)
+}
+
+// Whether a row of section k is good.
+fn row_good(agents: &[u8], k: u32, w: Words) -> bool
+    ensures { λ r. ⌜ r ≡ rowGood (kindIn (now (agents .entry))) k w ⌝ }
+{
+    match k {
+        1 => agent_row_good(w),
+        2 => boundary_row_good(agents, w),
+        3 => plant_row_good(agents, w),
+        4 => contract_row_good(agents, w),
+        _ => true,
+    }
+}
+
+// Row i of a section: fine, or its refusal. Sections 1 to 4 have refusals 3 to 6.
+fn read_row(agents: &[u8], section: &[u8], k: u32, i: usize) -> Verdict
+    requires { ⌜ (k ≤ 4) × Placeable i ⌝ }
+    ensures { λ r. ⌜ r ≡ toldIn (now (agents .entry)) (now (section .entry)) k i ⌝ }
+{
+    if row_good(agents, k, rows::row_at(section, i)) {
+        Verdict::Fine
+    } else {
+        refusals::refuse(k + 2, i as u32)
+    }
+}
+
+// The rows of section k, cut out of the sheet so that a row's place needs no test of its own: the first bad one ends the reading.
 fn section_verdict(s: &[u8], c: Counts, k: u32) -> Verdict
-    requires { ⌜ Placeable (trailerStart c) ⌝ }
+    requires { ⌜ Laid (now s) c × (k ≤ 4) ⌝ }
     ensures { λ r. ⌜ r ≡ sectionVerdict (now (s .entry)) c k ⌝ }
 {
-    let n = rows_in(c, k);
+    let agents = part_of(s, c, 1);
+    let section = part_of(s, c, k);
+    let n = section.len() / 16;
     for i in 0..n {
-        let answer = read_row(s, c, k, i);
-        let RowRead::Row(_) = answer else {
-            return verdict_in(answer);
+        let answer = read_row(agents, section, k, i);
+        let Verdict::Fine = answer else {
+            return answer;
         };
     }
     Verdict::Fine
@@ -310,7 +308,7 @@ fn section_verdict(s: &[u8], c: Counts, k: u32) -> Verdict
 
 // The four sections: the lowest number wins.
 fn rows_verdict(s: &[u8], c: Counts) -> Verdict
-    requires { ⌜ Placeable (trailerStart c) ⌝ }
+    requires { ⌜ Laid (now s) c ⌝ }
     ensures { λ r. ⌜ r ≡ rowsVerdict (now (s .entry)) c ⌝ }
 {
     let a = section_verdict(s, c, 1);

@@ -1,7 +1,7 @@
 use mathlib.Core.Path.{sym, _∙_}
 use native.Mathlib.Omega.{arith}
 use borrow.Author.Tests.{not-true, not-false}
-use Rattle.sheet.proofs.Sections.{has-trailer, read-short, read-crooked, read-rows, layout-few}
+use Rattle.sheet.proofs.Sections.{has-trailer, read-short, read-crooked, read-rows, layout-few, layout-long}
 use borrow.Author.Needs.{needs}
 use Rattle.sheet.proofs.read.Statement.{statement}
 use Rattle.sheet.proofs.read.Tie as tie
@@ -26,8 +26,9 @@ returns-2 c =
 rows-verdict-requires : tie.Need-rows-verdict-requires
 rows-verdict-requires c κs =
     let k = c .before .before .counts-of .ensures .0 in
-    let f = layout-few _ (sym (c .before .layout-good .ensures) ∙ not-false _ (c .if2 .left)) in
-    rw k (omega arith)
+    let good = sym (c .before .layout-good .ensures) ∙ not-false _ (c .if2 .left) in
+    let f = layout-few _ good in
+    rw k (layout-long _ good, omega arith)
 
 enum-told : tie.Need-enum-told
 enum-told c = search needs

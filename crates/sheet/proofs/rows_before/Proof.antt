@@ -1,8 +1,8 @@
 use borrow.Author.Tests.{ne-eqb}
 use Rattle.sheet.specs.Asking.{rowsBefore}
 use borrow.Author.Needs.{needs}
-use Rattle.sheet.proofs.asking.rows_before.Statement.{statement}
-use Rattle.sheet.proofs.asking.rows_before.Tie as tie
+use Rattle.sheet.proofs.rows_before.Statement.{statement}
+use Rattle.sheet.proofs.rows_before.Tie as tie
 
 returns : tie.Need-returns
 unfolding rowsBefore

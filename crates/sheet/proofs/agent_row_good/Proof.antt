@@ -1,0 +1,8 @@
+use borrow.Author.Needs.{needs}
+use Rattle.sheet.proofs.agent_row_good.Statement.{statement}
+use Rattle.sheet.proofs.agent_row_good.Tie as tie
+
+pub agent-row-good-spec : {M : Type 1} → statement M
+agent-row-good-spec =
+    tie.close
+    (tie.spec (λ c κs. search needs) (λ c κs. search needs) (λ c κs. search needs) (λ c. cc))
