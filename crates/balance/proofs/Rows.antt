@@ -2,20 +2,19 @@
 use Prim.Native.Nat.{ℕ, _+_, _*_, _≤_, _<_}
 use native.Mathlib.Omega.{arith}
 use mathlib.Core.List.{List}
-use lib.ListN.{length, set}
 use mathlib.Core.Path.{_≡_, ap₂, sym}
 use Rattle.sums.specs.Sums.{keyed}
-use Rattle.sums.specs.Lists.{at}
-use Rattle.sums.proofs.Keyed.{keyed-eq, keyed-most, keyed-set}
-use Rattle.rows.specs.Limits.{mostAgents, mostBoundaries, mostEnergy, mostFactor}
+use Rattle.sums.proofs.Keyed.{keyed-eq, keyed-most}
+use Rattle.rows.specs.Limits.{mostAgents, mostEnergy, mostFactor}
 use Rattle.rows.specs.Bytes.{wordsAt}
 use Rattle.rows.specs.Rows.{boundaryOf}
 use Rattle.rows.specs.declared.Boundary.{Boundary}
 use Rattle.sheet.specs.Reading.{readOf}
 use Rattle.sheet.specs.declared.Reading.{Reading}
 use Rattle.sheet.specs.declared.Counts.{Counts}
+use Rattle.sheet.proofs.Accepted.{accepted-few, accepted-boundary}
 use Rattle.columns.specs.Columns.{columnsOf}
-use Rattle.columns.proofs.Columns.{agents-long, boundaries-long, owner-at, factor-at, import-at, export-at, sound}
+use Rattle.columns.proofs.Columns.{boundaries-long, owner-at, factor-at, import-at, export-at}
 use Rattle.hour.specs.Sheet.{agents, boundaries}
 use Rattle.hour.specs.Balance.{referred, imported, exported}
 use Rattle.hour.proofs.Bounds.{referred-le}
@@ -39,12 +38,6 @@ pub record RowSound (b : Boundary) : Type 0 where
   pub import : b .import ≤ mostEnergy
   pub export : b .export ≤ mostEnergy
 
--- one row more, put into the cell of its agent
-pub keyed-put : (key v : ℕ → ℕ) (m n : ℕ) (out : List ℕ) (k w : ℕ) → k ≡ key m → w ≡ v m → k < n → length out ≡ n
-    → ((a : ℕ) → a < n → at out a ≡ keyed key v m a)
-    → (a : ℕ) → a < n → at (set out k (at out k + w)) a ≡ keyed key v (m + 1) a
-keyed-put key v m n out k w p q h e r a l = rw (p, q) (keyed-set key v m n out (omega arith) e r a l)
-
 module _ (s : List ℕ) (c : Counts) where
   -- the sums by agent are those of the columns
   module _ (a : ℕ) where
@@ -61,20 +54,14 @@ module _ (s : List ℕ) (c : Counts) where
         (keyed-eq _ _ _ _ (c .boundaries) a (λ j l. sym (owner-at s c j l)) (λ j l. sym (ap₂ referred (export-at s c j l) (factor-at s c j l))))
 
   module _ (e : readOf s ≡ Reading.Accepted c) where
-    pub few-agents : c .agents ≤ mostAgents
-    few-agents = omega (arith, sound s c e .few .agents, agents-long s c)
-
-    pub few-boundaries : c .boundaries ≤ mostBoundaries
-    few-boundaries = omega (arith, sound s c e .few .boundaries, boundaries-long s c)
-
     pub row-sound : (j : ℕ) → j < c .boundaries → RowSound (row s (c .agents) j)
     row-sound j l =
-        let b = sound s c e .boundary j (omega (arith, boundaries-long s c)) in
+        let r = accepted-boundary s c e j l in
         record {
-          there = omega (arith, b .there, owner-at s c j l, sound s c e .few .agents);
-          factor = omega (arith, b .factor, factor-at s c j l);
-          import = omega (arith, b .import, import-at s c j l);
-          export = omega (arith, b .export, export-at s c j l);
+          there = omega (arith, r .there, accepted-few s c e .agents);
+          factor = r .fits .factor;
+          import = r .fits .import;
+          export = r .fits .export;
         }
 
     -- j rows of one agent come to at most 6,000,000 each

@@ -2,7 +2,7 @@
 -- them the function answers 11 and changes nothing at all. Assumes nothing.
 use Prim.Native.Nat.{ℕ}
 use mathlib.Core.Path.{_≡_}
-use mathlib.Core.Bool.{Bool, cond}
+use mathlib.Core.Bool.{cond}
 use mathlib.Core.List.{List, [], _∷_}
 use lib.ListN.{length}
 use lib.Dec.{leb}
@@ -11,7 +11,6 @@ use Rattle.refusals.specs.Refusals.{noRoom, numberOf, refused, refusedUnless, c
 use Rattle.refusals.specs.declared.Verdict.{Verdict}
 use Rattle.share.specs.Share.{shareVerdict, shareOf}
 use Rattle.sheet.specs.Reading.{readOf, sheetLength}
-use Rattle.sheet.specs.declared.Counts.{Counts}
 use Rattle.sheet.specs.declared.Reading.{Reading}
 use Rattle.rows.specs.Bytes.{byteOf}
 use Rattle.columns.specs.Columns.{hourOf}
@@ -31,33 +30,26 @@ pub record ShareTold (amount : ℕ) (weights before : List ℕ) (r : ℕ) (after
   pub number : r ≡ numberOf (shareVerdict weights before)
   pub shares : Filled 0 before after (cells (shareVerdict weights before) (length weights)) (shareOf amount weights)
 
--- an answer of k numbers, where the lent list has room for them
-abbrev pub told : (k : ℕ) (answer before : List ℕ) → ℕ
-told k answer before = cond (leb k (length before)) (at answer 0) noRoom
-
-abbrev pub tellsIn : (k : ℕ) (before : List ℕ) → ℕ
-tellsIn k before = cond (leb k (length before)) k 0
+-- an answer of k numbers: its first is returned and all are listed, where the lent list has room for them
+pub record Told (k : ℕ) (answer before : List ℕ) (r : ℕ) (after : List ℕ) : Type 0 where
+  pub number : r ≡ cond (leb k (length before)) (at answer 0) noRoom
+  pub listed : Filled 0 before after (cond (leb k (length before)) k 0) (at answer)
 
 -- reading: number, place, and the four counts, 0 where refused
 abbrev pub readAnswer : Reading → List ℕ
 readAnswer (Reading.Accepted c) = 0 ∷ 0 ∷ c .agents ∷ c .boundaries ∷ c .plants ∷ c .contracts ∷ []
 readAnswer (Reading.Refused r) = r .number ∷ r .place ∷ 0 ∷ 0 ∷ 0 ∷ 0 ∷ []
 
-pub record ReadTold (sheet before : List ℕ) (r : ℕ) (after : List ℕ) : Type 0 where
-  pub number : r ≡ told 6 (readAnswer (readOf sheet)) before
-  pub answer : Filled 0 before after (tellsIn 6 before) (at (readAnswer (readOf sheet)))
+abbrev pub ReadTold : (sheet before : List ℕ) → ℕ → (after : List ℕ) → Type 0
+ReadTold sheet = Told 6 (readAnswer (readOf sheet))
 
 -- writing: number, place, and the length written, 0 where refused; and the sheet's bytes
 abbrev pub writeAnswer : Writing → List ℕ
 writeAnswer (Writing.Done n) = 0 ∷ 0 ∷ n ∷ []
 writeAnswer (Writing.Refused r) = r .number ∷ r .place ∷ 0 ∷ []
 
-abbrev pub writingOf : Numbers → (room : ℕ) → Writing
-writingOf n room = writing (writeVerdict n room) (sheetLength (countsIn n))
-
 pub record WriteTold (n : Numbers) (bytes list : List ℕ) (r : ℕ) (bytes′ list′ : List ℕ) : Type 0 where
-  pub number : r ≡ told 3 (writeAnswer (writingOf n (length bytes))) list
-  pub answer : Filled 0 list list′ (tellsIn 3 list) (at (writeAnswer (writingOf n (length bytes))))
+  pub told : Told 3 (writeAnswer (writing (writeVerdict n (length bytes)) (sheetLength (countsIn n)))) list r list′
   pub sheet : Filled 0 bytes bytes′ (cond (leb 3 (length list)) (cells (writeVerdict n (length bytes)) (sheetLength (countsIn n))) 0) (byteOf (rowOf n))
 
 -- settling: number, place, price, demand and losses; and the four lent lists as `settle` leaves them
@@ -68,8 +60,7 @@ abbrev pub judged : (sheet : List ℕ) (before : Lent) (list : List ℕ) → Ver
 judged sheet before list = cond (leb 5 (length list)) (verdictOf sheet before) (refused noRoom 0)
 
 pub record SettleTold (sheet : List ℕ) (before after : Lent) (list : List ℕ) (r : ℕ) (list′ : List ℕ) : Type 0 where
-  pub number : r ≡ told 5 (summaryAnswer (summaryOf (verdictOf sheet before) (hourOf sheet))) list
-  pub answer : Filled 0 list list′ (tellsIn 5 list) (at (summaryAnswer (summaryOf (verdictOf sheet before) (hourOf sheet))))
+  pub told : Told 5 (summaryAnswer (summaryOf (verdictOf sheet before) (hourOf sheet))) list r list′
   pub hour : Outcome (judged sheet before list) (hourOf sheet) before after (summaryOf (judged sheet before list) (hourOf sheet))
 
 -- the page: number, place, and the length written, 0 where refused; and the page's bytes
@@ -81,6 +72,5 @@ abbrev pub pageVerdict : (sheet : List ℕ) (room : ℕ) → Verdict
 pageVerdict sheet room = refusedUnless (leb (length (pageText sheet)) room) noRoom 0
 
 pub record PageTold (sheet bytes list : List ℕ) (r : ℕ) (bytes′ list′ : List ℕ) : Type 0 where
-  pub number : r ≡ told 3 (pageAnswer (printed (pageVerdict sheet (length bytes)) (length (pageText sheet)))) list
-  pub answer : Filled 0 list list′ (tellsIn 3 list) (at (pageAnswer (printed (pageVerdict sheet (length bytes)) (length (pageText sheet)))))
+  pub told : Told 3 (pageAnswer (printed (pageVerdict sheet (length bytes)) (length (pageText sheet)))) list r list′
   pub page : Filled 0 bytes bytes′ (cond (leb 3 (length list)) (cells (pageVerdict sheet (length bytes)) (length (pageText sheet))) 0) (at (pageText sheet))

@@ -4,7 +4,6 @@ pub mod Insert
 pub mod Scan
 pub mod Decode
 pub mod Walks
-pub mod Tagged
 pub mod ByPlace
 pub mod Section
 pub mod Verdicts

@@ -8,6 +8,7 @@ use lib.Dec.{ltb, leb, eqb}
 use lib.ListN.{length}
 use borrow.Author.Tests.{ltb-true, leb-true, eqb-true, lt-ltb, le-leb, eq-eqb}
 use Rattle.sums.specs.Lists.{Filled}
+use Rattle.sums.proofs.Tests.{all-true}
 use Rattle.sums.proofs.Fill.{filled-none, filled-count, filled-unique}
 use Rattle.refusals.proofs.Fine.{not-fine, else-fine, fine-left, fine-parts, parts-fine, fine-test, each-fine, all-fine}
 use Rattle.refusals.proofs.FirstBad.{good-row, bad-row}
@@ -16,7 +17,6 @@ use Rattle.refusals.specs.declared.Refusal.{Refusal}
 use Rattle.refusals.specs.declared.Verdict.{Verdict}
 use Rattle.rows.specs.Limits.{mostAgents, mostContracts, mostEnergy, mostPrice}
 use Rattle.rows.specs.declared.Contract.{Contract}
-use Rattle.rows.proofs.Good.{and-left, and-right}
 use Rattle.deals.specs.Deals.{fixed, demanded}
 use Rattle.deals.specs.Hour.{hourAmount}
 use Rattle.contracts.specs.Assign.{countIn, rowIn, rowsIn, rowCount, layoutGood, rowGood, rowVerdict, layoutVerdict, rowsVerdict, roomVerdict, assignVerdict, Assigned, Ready}
@@ -30,23 +30,11 @@ module _ (s ds : List ℕ) where
     pub few : countIn s ≤ 256
     pub agents : length ds ≤ 64
 
-  abbrev whole : Bool
-  whole = eqb (length s % 16) 0
-
-  abbrev rowsFew : Bool
-  rowsFew = leb (countIn s) mostContracts
-
-  abbrev agentsFew : Bool
-  agentsFew = leb (length ds) mostAgents
-
   pub laid : layoutGood s ds ≡ true → Laid
   laid e =
-      let b : (rowsFew && agentsFew) ≡ true = and-right whole (rowsFew && agentsFew) e in
-      record {
-        whole = eqb-true (length s % 16) 0 (and-left whole (rowsFew && agentsFew) e);
-        few = leb-true (countIn s) mostContracts (and-left rowsFew agentsFew b);
-        agents = leb-true (length ds) mostAgents (and-right rowsFew agentsFew b);
-      }
+      let all = all-true (eqb (length s % 16) 0) ((leb (countIn s) mostContracts && leb (length ds) mostAgents) ∷ []) e in
+      let few = all-true (leb (countIn s) mostContracts) (leb (length ds) mostAgents ∷ []) (all .1 .0) in
+      record { whole = eqb-true _ _ (all .0); few = leb-true _ _ (few .0); agents = leb-true _ _ (few .1 .0) }
 
   layout-holds : Laid → layoutGood s ds ≡ true
   layout-holds r = rw (eq-eqb (length s % 16) 0 (r .whole), le-leb (countIn s) mostContracts (r .few), le-leb (length ds) mostAgents (r .agents))
@@ -60,23 +48,20 @@ module _ (a : ℕ) (k : Contract) where
     pub price : k .price ≤ mostPrice
     pub quantity : k .quantity ≤ mostEnergy
 
-  abbrev kindGood : Bool
-  kindGood = leb fixed (k .kind) && leb (k .kind) demanded
-
   abbrev sizeGood : Bool
   sizeGood = leb (k .price) mostPrice && leb (k .quantity) mostEnergy
 
   row-tells : rowGood a k ≡ true → Row
   row-tells e =
-      let r : (kindGood && sizeGood) ≡ true = and-right (ltb (k .buyer) a) (kindGood && sizeGood) e in
-      let m : kindGood ≡ true = and-left kindGood sizeGood r in
-      let w : sizeGood ≡ true = and-right kindGood sizeGood r in
+      let all = all-true (ltb (k .buyer) a) ((leb fixed (k .kind) && leb (k .kind) demanded && sizeGood) ∷ []) e in
+      let kind = all-true (leb fixed (k .kind)) (leb (k .kind) demanded ∷ sizeGood ∷ []) (all .1 .0) in
+      let size = all-true (leb (k .price) mostPrice) (leb (k .quantity) mostEnergy ∷ []) (kind .1 .1 .0) in
       record {
-        buyer = ltb-true (k .buyer) a (and-left (ltb (k .buyer) a) (kindGood && sizeGood) e);
-        least = leb-true fixed (k .kind) (and-left (leb fixed (k .kind)) (leb (k .kind) demanded) m);
-        most = leb-true (k .kind) demanded (and-right (leb fixed (k .kind)) (leb (k .kind) demanded) m);
-        price = leb-true (k .price) mostPrice (and-left (leb (k .price) mostPrice) (leb (k .quantity) mostEnergy) w);
-        quantity = leb-true (k .quantity) mostEnergy (and-right (leb (k .price) mostPrice) (leb (k .quantity) mostEnergy) w);
+        buyer = ltb-true _ _ (all .0);
+        least = leb-true _ _ (kind .0);
+        most = leb-true _ _ (kind .1 .0);
+        price = leb-true _ _ (size .0);
+        quantity = leb-true _ _ (size .1 .0);
       }
 
   row-holds : Row → rowGood a k ≡ true

@@ -12,9 +12,8 @@ use Rattle.sums.proofs.Fill.{filled-unique}
 use Rattle.columns.specs.Columns.{hourOf}
 use Rattle.hour.specs.Balance.{hourDemand}
 use Rattle.hour.specs.Signed.{signedSum}
-use Rattle.hour.specs.Answer.{Lent}
+use Rattle.hour.specs.Answer.{Lent, Roomy}
 use Rattle.hour.specs.declared.Summary.{Summary}
-use Rattle.hour.proofs.Verdicts.{Roomy}
 use Rattle.settle.specs.Settled.{Settled}
 use Rattle.duties.specs.Result.{agentsOf, contractsOf, isRetailer, isGenerator, generatedIn, PossibleFor, costOf, Passes, Untouched, shareIn, contractedIn, boughtIn, soldIn, moneyIn, scheduleIn, amountIn}
 use Rattle.duties.proofs.Steps.{Hour, number-none, list-possible, list-cheapest, list-balanced, demand-generated, list-shares, list-buyers, list-sellers, list-money}

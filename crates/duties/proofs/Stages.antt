@@ -14,9 +14,9 @@ use Rattle.refusals.specs.declared.Verdict.{Verdict}
 use Rattle.sheet.specs.Reading.{readVerdict}
 use Rattle.columns.specs.Columns.{hourOf}
 use Rattle.hour.specs.Balance.{hourDemand}
-use Rattle.hour.specs.Answer.{Lent, balanceVerdict, coverVerdict, roomVerdict}
+use Rattle.hour.specs.Answer.{Lent, Roomy, balanceVerdict, coverVerdict, roomVerdict}
 use Rattle.hour.specs.declared.Summary.{Summary}
-use Rattle.hour.proofs.Verdicts.{cover-fine, cover-10, Roomy, room-fine}
+use Rattle.hour.proofs.Verdicts.{cover-fine, cover-10, room-fine}
 use Rattle.hour.proofs.Balance.{refused-exactly}
 use Rattle.settle.specs.Settled.{verdictOf, Settled}
 use Rattle.duties.specs.Result.{plantsOf, PossibleFor, Passes, Untouched}

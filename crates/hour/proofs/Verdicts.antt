@@ -1,23 +1,23 @@
 -- Refusals 7 to 11: what each answer says of the sheet, and the answer in each case. Assumes nothing.
 use Prim.Native.Nat.{ℕ, _*_, _≤_, _<_}
 use native.Mathlib.Omega.{arith}
-use mathlib.Core.Bool.{Bool, true, false, _&&_, _||_}
+use mathlib.Core.Bool.{true, false, _&&_, _||_}
 use mathlib.Core.List.{List, [], _∷_}
-use mathlib.Core.Logic.{_⊎_, inl, inr}
-use mathlib.Core.Path.{_≡_, refl}
+use mathlib.Core.Logic.{_⊎_, inl, inr, ⊎-elim}
+use mathlib.Core.Path.{_≡_}
 use lib.Dec.{ltb, leb, eqb}
 use lib.ListN.{length}
 use borrow.Author.Tests.{ltb-false, leb-true, eqb-true, ltb-true, le-leb, lt-leb}
 use Rattle.sums.specs.Sums.{sum}
 use Rattle.sums.specs.Lists.{at}
 use Rattle.sums.proofs.First.{first-below}
+use Rattle.sums.proofs.Tests.{all-true, or-cases}
 use Rattle.refusals.specs.Refusals.{badExports, badGain, unshared, uncovered, noRoom, refused, refusedUnless}
 use Rattle.refusals.specs.declared.Refusal.{Refusal}
 use Rattle.refusals.specs.declared.Verdict.{Verdict}
 use Rattle.hour.specs.Sheet.{Sheet, agents, plants, contracts, retails}
 use Rattle.hour.specs.Balance.{imported, exported, consumed, entering, leaving, losses, hourDemand}
-use Rattle.hour.specs.Answer.{Lent, firstOver, balanceVerdict, coverVerdict, roomVerdict, hourVerdict}
-use Rattle.rows.proofs.Good.{and-left, and-right}
+use Rattle.hour.specs.Answer.{Lent, Roomy, firstOver, balanceVerdict, coverVerdict, roomVerdict, hourVerdict}
 use Rattle.refusals.proofs.Fine.{fine-parts, fine-test}
 
 -- ---- what passing refusals 7 to 9 says
@@ -25,13 +25,6 @@ pub record Balanced (s : Sheet) : Type 0 where
   pub exports : (a : ℕ) → a < agents s → retails s a ≡ true → exported s a ≤ imported s a
   pub gain : leaving s ≤ entering s
   pub shared : (losses s ≡ 0) ⊎ (0 < consumed s)
-
-or-cases : (x y : ℕ) → (eqb x 0 || ltb 0 y) ≡ true → (x ≡ 0) ⊎ (0 < y)
-or-cases x y h = go (eqb x 0) refl h
-  where
-    go : (b : Bool) → eqb x 0 ≡ b → (b || ltb 0 y) ≡ true → (x ≡ 0) ⊎ (0 < y)
-    go true e k = inl (eqb-true x 0 e)
-    go false e k = inr (ltb-true 0 y k)
 
 abbrev tests : Sheet → List Verdict
 tests s =
@@ -49,7 +42,7 @@ module _ (s : Sheet) where
       record {
         exports = λ a l r. within a r (first-below (agents s) a (λ b. retails s b && ltb (imported s b) (exported s b)) (omega arith));
         gain = leb-true _ _ (fine-test _ badGain 0 (all .1 .0));
-        shared = or-cases (losses s) (consumed s) (fine-test _ unshared 0 (all .1 .1 .0));
+        shared = ⊎-elim (λ e. inl (eqb-true (losses s) 0 e)) (λ e. inr (ltb-true 0 (consumed s) e)) (or-cases (eqb (losses s) 0) (ltb 0 (consumed s)) (fine-test _ unshared 0 (all .1 .1 .0)));
       }
     where
       within : (a : ℕ) → retails s a ≡ true → (retails s a && ltb (imported s a) (exported s a)) ≡ false → exported s a ≤ imported s a
@@ -88,28 +81,16 @@ module _ (s : Sheet) where
   cover-10 h = simp (lt-leb _ _ h)
 
 -- ---- refusal 11
-pub record Roomy (s : Sheet) (l : Lent) : Type 0 where
-  pub figures : 6 * agents s ≤ length (l .figures)
-  pub money : agents s ≤ length (l .money)
-  pub schedule : plants s ≤ length (l .schedule)
-  pub amounts : contracts s ≤ length (l .amounts)
-
 module _ (s : Sheet) (l : Lent) where
   pub roomy : roomVerdict s l ≡ Verdict.Fine → Roomy s l
   unfolding roomVerdict
   roomy h =
-      let f = leb (6 * agents s) (length (l .figures)) in
-      let m = leb (agents s) (length (l .money)) in
-      let p = leb (plants s) (length (l .schedule)) in
-      let q = leb (contracts s) (length (l .amounts)) in
-      let e₄ = fine-test (f && m && p && q) noRoom 0 h in
-      let e₃ = and-left (f && m && p) q e₄ in
-      let e₂ = and-left (f && m) p e₃ in
+      let all = all-true (leb (6 * agents s) (length (l .figures))) (leb (agents s) (length (l .money)) ∷ leb (plants s) (length (l .schedule)) ∷ leb (contracts s) (length (l .amounts)) ∷ []) (fine-test _ noRoom 0 h) in
       record {
-        figures = leb-true _ _ (and-left f m e₂);
-        money = leb-true _ _ (and-right f m e₂);
-        schedule = leb-true _ _ (and-right (f && m) p e₃);
-        amounts = leb-true _ _ (and-right (f && m && p) q e₄);
+        figures = leb-true _ _ (all .0);
+        money = leb-true _ _ (all .1 .0);
+        schedule = leb-true _ _ (all .1 .1 .0);
+        amounts = leb-true _ _ (all .1 .1 .1 .0);
       }
 
   pub room-11 : (leb (6 * agents s) (length (l .figures)) && leb (agents s) (length (l .money)) && leb (plants s) (length (l .schedule)) && leb (contracts s) (length (l .amounts))) ≡ false

@@ -1,6 +1,6 @@
 -- Document 01, 'When the sheet is turned away', of an accepted sheet and the four lent lists: refusals 7 to 11, in this order.
 -- Assumes nothing.
-use Prim.Native.Nat.{ℕ, _*_}
+use Prim.Native.Nat.{ℕ, _*_, _≤_}
 use mathlib.Core.Bool.{_&&_, _||_}
 use mathlib.Core.List.{List, [], _∷_}
 use lib.IntN.{ℤ}
@@ -45,6 +45,13 @@ roomVerdict s l =
     (leb (6 * agents s) (length (l .figures)) && leb (agents s) (length (l .money)) && leb (plants s) (length (l .schedule)) && leb (contracts s) (length (l .amounts)))
     noRoom
     0
+
+-- the same, as a fact: the lent lists have room
+pub record Roomy (s : Sheet) (l : Lent) : Type 0 where
+  pub figures : 6 * agents s ≤ length (l .figures)
+  pub money : agents s ≤ length (l .money)
+  pub schedule : plants s ≤ length (l .schedule)
+  pub amounts : contracts s ≤ length (l .amounts)
 
 unfoldable pub hourVerdict : Sheet → Lent → Verdict
 hourVerdict s l = firstOf (balanceVerdict s ∷ coverVerdict s ∷ roomVerdict s l ∷ [])

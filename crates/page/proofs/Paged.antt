@@ -1,17 +1,16 @@
 -- The page of a sheet from the page of its summary and lists. Assumes nothing.
 use Prim.Native.Nat.{ℕ, _*_, _≤_, _<_}
-use mathlib.Core.Path.{_≡_, refl, ap, ap₂, sym, _∙_}
-use mathlib.Core.Bool.{Bool, true, false, cond, _&&_}
-use mathlib.Core.List.{List, [], _∷_}
+use mathlib.Core.Path.{_≡_, refl, ap, sym, _∙_}
+use mathlib.Core.Bool.{Bool, true, false}
+use mathlib.Core.List.{List, []}
 use native.Mathlib.Omega.{arith}
 use borrow.Author.Tests.{le-leb, leb-true, ne-eqb}
 use lib.Dec.{leb}
 use lib.IntN.{ℤ, pos}
-use lib.ListN.{length, take, replicate}
+use lib.ListN.{length, take}
 use Rattle.sums.specs.Lists.{at, listTo, Filled}
-use Rattle.sums.proofs.Lists.{length-listTo}
 use Rattle.sums.proofs.Fill.{filled-front}
-use Rattle.refusals.specs.Refusals.{noRoom, refusedUnless, orElse, cells, numberOf}
+use Rattle.refusals.specs.Refusals.{noRoom, refusedUnless, orElse}
 use Rattle.refusals.specs.declared.Refusal.{Refusal}
 use Rattle.refusals.specs.declared.Verdict.{Verdict}
 use Rattle.rows.specs.Limits.{mostAgents}
@@ -19,19 +18,19 @@ use Rattle.sheet.specs.Reading.{readVerdict, countsOf, readOf, reading}
 use Rattle.sheet.specs.Asking.{agentAt}
 use Rattle.sheet.specs.declared.Counts.{Counts}
 use Rattle.sheet.specs.declared.Reading.{Reading}
-use Rattle.hour.specs.Sheet.{Sheet, agents}
+use Rattle.hour.specs.Sheet.{agents}
 use Rattle.hour.specs.Lines.{figure, money}
 use Rattle.hour.specs.Answer.{Lent, hourVerdict, balanceVerdict, coverVerdict, roomVerdict, summaryOf}
 use Rattle.hour.specs.declared.Summary.{Summary}
 use Rattle.columns.specs.Columns.{columnsOf, hourOf}
 use Rattle.columns.proofs.Columns.{agents-long, plants-long, contracts-long}
-use Rattle.hour.proofs.Verdicts.{Roomy, room-fine}
+use Rattle.hour.proofs.Verdicts.{room-fine}
 use Rattle.sheet.proofs.Accepted.{Few, accepted-few}
-use Rattle.refusals.proofs.Fine.{fine-left}
+use Rattle.refusals.proofs.Fine.{else-fine, fine-left}
 use Rattle.printing.proofs.Length.{page-short}
-use Rattle.columns.proofs.Numbers.{Between, read-between, balance-between, cover-between, room-between}
+use Rattle.columns.proofs.Numbers.{Between, read-between, balance-between, cover-between}
 use Rattle.settle.specs.Settled.{lent, verdictOf, Settled}
-use Rattle.printing.specs.Page.{pageOf, printVerdict, printed, Prints}
+use Rattle.printing.specs.Page.{pageOf, printVerdict, printed}
 use Rattle.printing.specs.declared.Printed.{Printed}
 use Rattle.page.specs.Page.{verdictFor, pageText}
 use Rattle.page.specs.Refused.{refusedSummary}
@@ -41,11 +40,7 @@ pub print-fine : (kinds figures : List ℕ) (m : List ℤ) (size room : ℕ) →
     → printVerdict kinds figures m size room ≡ refusedUnless (leb size room) noRoom 0
 unfolding printVerdict
 print-fine kinds figures m size room h f k =
-    rw (le-leb (length kinds) mostAgents h, le-leb (6 * length kinds) (length figures) f, le-leb (length kinds) (length m) k) (go (leb size room))
-  where
-    go : (b : Bool) → orElse (refusedUnless b noRoom 0) Verdict.Fine ≡ refusedUnless b noRoom 0
-    go true = refl
-    go false = refl
+    rw (le-leb (length kinds) mostAgents h, le-leb (6 * length kinds) (length figures) f, le-leb (length kinds) (length m) k) (else-fine (refusedUnless (leb size room) noRoom 0))
 
 -- the lists do not matter to the page of a refusal
 pub refused-same : (r : Summary) (k f k′ f′ : List ℕ) (m m′ : List ℤ) → (r .number ≡ 0 → ⊥) → pageOf r k f m ≡ pageOf r k′ f′ m′

@@ -1,14 +1,15 @@
 -- The three ends of printing, and that one statement tells the whole outcome. Assumes nothing.
-use Prim.Native.Nat.{ℕ, _+_, _-_, _*_, _≤_, _<_}
+use Prim.Native.Nat.{ℕ, _-_, _*_, _≤_, _<_}
 use mathlib.Core.Path.{_≡_, refl, ap, sym, _∙_}
-use mathlib.Core.Bool.{Bool, true, false, _&&_, false≢true}
-use mathlib.Core.List.{List}
+use mathlib.Core.Bool.{true, false, _&&_}
+use mathlib.Core.List.{List, [], _∷_}
 use native.Mathlib.Omega.{arith}
 use borrow.Author.Tests.{leb-true, le-leb, lt-leb}
 use lib.Dec.{leb}
 use lib.IntN.{ℤ}
 use lib.ListN.{length, drop, length-drop}
 use Rattle.sums.specs.Lists.{at, Filled}
+use Rattle.sums.proofs.Tests.{all-true}
 use Rattle.sums.proofs.Fill.{filled-none, filled-unique}
 use Rattle.refusals.specs.Refusals.{badLayout, noRoom, refusal}
 use Rattle.refusals.specs.declared.Verdict.{Verdict}
@@ -21,14 +22,6 @@ pub one-outcome : {v : Verdict} {text before : List ℕ} {r r′ : Printed} {aft
     → Prints v text before r after → Prints v text before r′ after′ → (r ≡ r′) × (after ≡ after′)
 one-outcome p q = (p .answer ∙ sym (q .answer), filled-unique 0 _ _ _ _ _ (p .bytes) (q .bytes))
 
-and-left : (a b : Bool) → (a && b) ≡ true → a ≡ true
-and-left true b e = refl
-and-left false b e = e
-
-and-right : (a b : Bool) → (a && b) ≡ true → b ≡ true
-and-right true b e = e
-and-right false b e = absurd (false≢true e)
-
 pub record Listed (kinds figures : ℕ) (money : ℕ) : Type 0 where
   pub few : kinds ≤ mostAgents
   pub cells : 6 * kinds ≤ figures
@@ -36,12 +29,8 @@ pub record Listed (kinds figures : ℕ) (money : ℕ) : Type 0 where
 
 pub listed : (k f m : ℕ) → (leb k mostAgents && leb (6 * k) f && leb k m) ≡ true → Listed k f m
 listed k f m e =
-    let p = and-left (leb k mostAgents && leb (6 * k) f) (leb k m) e in
-    record {
-      few = leb-true _ _ (and-left (leb k mostAgents) (leb (6 * k) f) p);
-      cells = leb-true _ _ (and-right (leb k mostAgents) (leb (6 * k) f) p);
-      owed = leb-true _ _ (and-right (leb k mostAgents && leb (6 * k) f) (leb k m) e);
-    }
+    let all = all-true (leb k mostAgents) (leb (6 * k) f ∷ leb k m ∷ []) e in
+    record { few = leb-true _ _ (all .0); cells = leb-true _ _ (all .1 .0); owed = leb-true _ _ (all .1 .1 .0) }
 
 module _ (kinds figures : List ℕ) (money : List ℤ) (text before : List ℕ) where
   pub bad-lists : (leb (length kinds) mostAgents && leb (6 * length kinds) (length figures) && leb (length kinds) (length money)) ≡ false

@@ -1,18 +1,13 @@
 -- The columns that the code has filled are those of the sheet. Assumes nothing.
-use Prim.Native.Nat.{ℕ, _≤_, _<_}
-use native.Mathlib.Omega.{arith}
+use Prim.Native.Nat.{ℕ, _≤_}
 use mathlib.Core.List.{List}
 use mathlib.Core.Path.{_≡_}
 use lib.ListN.{length, take}
-use Rattle.rows.specs.Limits.{mostEnergy}
 use Rattle.sums.specs.Lists.{Filled}
 use Rattle.sums.proofs.Fill.{filled-front}
 use Rattle.sheet.specs.Asking.{plantAt}
-use Rattle.sheet.specs.Reading.{readOf}
 use Rattle.sheet.specs.declared.Counts.{Counts}
-use Rattle.sheet.specs.declared.Reading.{Reading}
 use Rattle.columns.specs.Columns.{columnsOf}
-use Rattle.columns.proofs.Columns.{plants-long, available-at, sound}
 
 module _ (s : List ℕ) (c : Counts) (l₀ l : List ℕ) where
   module _ (h : c .plants ≤ length l₀) where
@@ -31,8 +26,3 @@ module _ (s : List ℕ) (c : Counts) (l₀ l : List ℕ) where
     pub available-are : Filled 0 l₀ l (c .plants) (λ i. plantAt s c i .availability) → take (c .plants) l ≡ columnsOf s c .available
     unfolding columnsOf
     available-are f = filled-front 0 l₀ l (c .plants) _ h f
-
--- an availability within its limit
-pub row-available : (s : List ℕ) (c : Counts) → readOf s ≡ Reading.Accepted c → (i : ℕ) → i < c .plants → plantAt s c i .availability ≤ mostEnergy
-row-available s c e i l =
-    omega (arith, sound s c e .plant i (omega (arith, plants-long s c)) .available, available-at s c i l)

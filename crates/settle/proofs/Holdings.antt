@@ -3,7 +3,7 @@ use Prim.Native.Nat.{ℕ, _+_, _*_, _≤_, _<_}
 use native.Mathlib.Omega.{arith}
 use native.Mathlib.Decide.{decLt}
 use mathlib.Core.List.{List}
-use mathlib.Core.Path.{_≡_, ap, _∙_, sym}
+use mathlib.Core.Path.{_≡_, refl, ap, _∙_, sym}
 use lib.ListN.{length, set, length-set, List·getD-eq-default}
 use Rattle.sums.specs.Sums.{keyed}
 use Rattle.sums.specs.Lists.{at, listTo, Filled}
@@ -170,7 +170,7 @@ module _ (section amounts : List ℕ) where
       once = set held (k .buyer) (at held (k .buyer) + at amounts j)
 
       half : (a : ℕ) → a < mostAgents → at once a ≡ boughtTo (j + 1) a + soldTo j a
-      half a m = rw is (keyed-beside (λ i. rowIn section i .buyer) (at amounts) (soldTo j) j mostAgents held (p .buyer j l) long before a m)
+      half a m = keyed-beside (λ i. rowIn section i .buyer) (at amounts) j held (k .buyer) (at amounts j) (ap (λ (x : Contract). x .buyer) is) refl (omega (arith, buyer-there)) a (soldTo j a) (before a m)
 
       bought-few : (n a : ℕ) → n ≤ countIn section → boughtTo n a ≤ mostEnergy * n
       bought-few n a m = keyed-most (λ i. rowIn section i .buyer) (at amounts) n a mostEnergy (λ i h. p .amount i (omega arith))
@@ -186,12 +186,9 @@ module _ (section amounts : List ℕ) where
 
       -- and the seller's
       pub both-added : (a : ℕ) → a < mostAgents → at (set once (k .seller) (at once (k .seller) + at amounts j)) a ≡ boughtTo (j + 1) a + soldTo (j + 1) a
-      both-added a m = omega (arith, other)
-        where
-          swapped : (b : ℕ) → b < mostAgents → at once b ≡ soldTo j b + boughtTo (j + 1) b
-          swapped b h = omega (arith, half b h)
-
-          other : at (set once (k .seller) (at once (k .seller) + at amounts j)) a ≡ soldTo (j + 1) a + boughtTo (j + 1) a
-          other =
-              let e : k .seller ≡ rowIn section j .seller = ap (λ (x : Contract). x .seller) is in
-              rw e (keyed-beside (λ i. rowIn section i .seller) (at amounts) (boughtTo (j + 1)) j mostAgents once (p .seller j l) (length-set held (k .buyer) _ ∙ long) swapped a m)
+      both-added a m =
+          omega (
+            arith,
+            keyed-beside (λ i. rowIn section i .seller) (at amounts) j once (k .seller) (at amounts j) (ap (λ (x : Contract). x .seller) is) refl
+                (omega (arith, seller-there, length-set held (k .buyer) (at held (k .buyer) + at amounts j))) a (boughtTo (j + 1) a) (omega (arith, half a m)),
+          )

@@ -1,6 +1,5 @@
 -- The verdict that the code comes to is the hour's, and a refusal leaves everything as it was. Assumes nothing.
 use Prim.Native.Nat.{ℕ, _≤_, _<_}
-use native.Mathlib.Omega.{arith}
 use mathlib.Core.Bool.{Bool, true, false}
 use mathlib.Core.List.{List, [], _∷_}
 use mathlib.Core.Path.{_≡_, refl, _∙_, sym}
@@ -20,9 +19,9 @@ use Rattle.columns.specs.Columns.{columnsOf, hourOf}
 use Rattle.columns.proofs.Columns.{agents-long, plants-long, contracts-long}
 use Rattle.hour.specs.Sheet.{Sheet, agents, plants, contracts}
 use Rattle.hour.specs.Balance.{lossShare, commercial, ownImport, losses, demands, hourDemand}
-use Rattle.hour.specs.Answer.{Lent, balanceVerdict, coverVerdict, roomVerdict, hourVerdict}
+use Rattle.hour.specs.Answer.{Lent, Roomy, balanceVerdict, coverVerdict, roomVerdict, hourVerdict}
 use Rattle.hour.specs.declared.Summary.{Summary}
-use Rattle.hour.proofs.Verdicts.{Roomy, covered}
+use Rattle.hour.proofs.Verdicts.{covered}
 use Rattle.hour.proofs.Verdicts as verdicts
 use Rattle.refusals.proofs.Fine.{both-fine, AllFine, fine-parts}
 use Rattle.balance.specs.Balances.{zeros, weighVerdict, Weighed}

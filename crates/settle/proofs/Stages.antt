@@ -7,13 +7,12 @@ use mathlib.Core.Path.{_≡_, refl, ap, _∙_, sym}
 use lib.Dec.{ltb, eqb}
 use lib.IntN.{ℤ, pos}
 use lib.ListN.{length, take}
-use lib.Seq.{getD-take, length-take-le}
 use Rattle.sums.specs.Sums.{sum, pick, keyed}
 use Rattle.sums.specs.Lists.{at, Filled}
 use Rattle.sums.proofs.Sums.{sum-most, sum-term, peak-eq}
 use Rattle.sums.proofs.Lists.{zeros-at}
 use Rattle.sums.proofs.Keyed.{keyed-eq}
-use Rattle.sums.proofs.Fill.{filled-count, filled-by}
+use Rattle.sums.proofs.Fill.{filled-count, filled-by, front-at, front-long}
 use Rattle.refusals.specs.declared.Verdict.{Verdict}
 use Rattle.rows.specs.Limits.{mostAgents}
 use Rattle.merit.specs.Merit.{hourPrice}
@@ -29,16 +28,6 @@ use Rattle.hour.proofs.Fits.{contracted-le}
 use Rattle.hour.proofs.Cells.{figure-is}
 use Rattle.balance.specs.Balances.{zeros}
 use Rattle.settle.specs.Parts.{Countable, Tallied, Covered, buys, sells, lineCell, lineMoney}
-
--- the front of a filled list, cell by cell
-pub front-at : (before after : List ℕ) (n : ℕ) (f : ℕ → ℕ) → Filled 0 before after n f → (i : ℕ) → i < n → at (take n after) i ≡ f i
-front-at before after n f r i l = getD-take n after i 0 l ∙ r .done i l
-
-pub front-long : (before after : List ℕ) (n : ℕ) (f : ℕ → ℕ) → Filled 0 before after n f → n ≤ length before → length (take n after) ≡ n
-front-long before after n f r l = length-take-le n after (omega (arith, r .long))
-
-pub front-fits : (before after : List ℕ) (n : ℕ) (f : ℕ → ℕ) → Filled 0 before after n f → n ≤ length before → n ≤ length after
-front-fits before after n f r l = omega (arith, r .long)
 
 -- an agent's part of the hour's demand
 part-le : (h : Sheet) (a : ℕ) → a < agents h → commercial h a ≤ hourDemand h

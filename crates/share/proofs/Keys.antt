@@ -14,7 +14,7 @@ use Rattle.sums.specs.Sums.{sum, pick, keyed}
 use Rattle.sums.specs.Lists.{at, total, Filled}
 use Rattle.sums.proofs.Sums.{sum-step, sum-eq, sum-le, sum-lt, sum-most}
 use Rattle.sums.proofs.Picks.{pick-le, pick-lt, pick-ge, pick-eq, pick-ne, pick-suc}
-use Rattle.sums.proofs.Keyed.{keyed-none, keyed-step, keyed-most, keyed-absent}
+use Rattle.sums.proofs.Keyed.{keyed-none, keyed-most, keyed-absent, keyed-beside}
 use Rattle.sums.proofs.Fill.{filled-by}
 use Rattle.share.specs.Share.{floorOf, remainderOf, leftOver, goesBefore, rankOf, shareOf}
 use Rattle.share.specs.Order.{Sharing, Held, keyOf, numberOf, larger, Stands, Ordered, Shifted, Inserted, named, Givable, Given}
@@ -196,25 +196,13 @@ given-none l before = record { more = λ i. omega (arith, keyed-none (λ q. numb
 
 pub given-more : (l before out : List ℕ) (n : ℕ) → numberOf (at l n) < length out → Given l n before out → Given l (n + 1) before (set out (numberOf (at l n)) (at out (numberOf (at l n)) + 1))
 given-more l before out n h g =
-    record { more = λ i. go i (ℕ-discrete (numberOf (at l n)) i); long = length-set out (numberOf (at l n)) (at out (numberOf (at l n)) + 1) ∙ g .long }
-  where
-    step : (i : ℕ) → named l (n + 1) i ≡ named l n i + pick (eqb (numberOf (at l n)) i) 1
-    step i = keyed-step (λ q. numberOf (at l q)) (λ q. 1) n i
-
-    go : (i : ℕ) → Dec (numberOf (at l n) ≡ i) → at (set out (numberOf (at l n)) (at out (numberOf (at l n)) + 1)) i ≡ at before i + named l (n + 1) i
-    go i (yes e) =
-        rw (← e)
-        (omega (
-          arith,
-          getD-set-same out (numberOf (at l n)) (at out (numberOf (at l n)) + 1) 0 h,
-          g .more (numberOf (at l n)),
-          step (numberOf (at l n)),
-          pick-eq (numberOf (at l n)) (numberOf (at l n)) 1 refl,
-        ))
-    go i (no e) =
-        omega (arith, getD-set-other out (numberOf (at l n)) i (at out (numberOf (at l n)) + 1) 0 (λ z. e (sym z)), g .more i, step i, pick-ne (numberOf (at l n)) i 1 e)
+    record {
+      more = λ i. omega (arith, keyed-beside (λ q. numberOf (at l q)) (λ q. 1) n out (numberOf (at l n)) 1 refl refl h i (at before i) (omega (arith, g .more i)));
+      long = length-set out (numberOf (at l n)) (at out (numberOf (at l n)) + 1) ∙ g .long;
+    }
 
 -- what a cell holds on the way
+
 pub given-le : (l before out : List ℕ) (n i : ℕ) → Given l n before out → at out i ≤ at before i + n
 given-le l before out n i g = omega (arith, g .more i, keyed-most (λ q. numberOf (at l q)) (λ q. 1) n i 1 (λ j _. le-refl 1))
 

@@ -1,4 +1,5 @@
 pub mod Laws
+pub mod Tagged
 pub mod Zeros
 pub mod Cases
 pub mod Proportion

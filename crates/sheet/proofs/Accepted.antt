@@ -14,7 +14,8 @@ use Rattle.refusals.specs.declared.Verdict.{Verdict}
 use Rattle.rows.specs.Limits.{mostAgents, mostBoundaries, mostPlants, mostContracts}
 use Rattle.rows.specs.Bytes.{wordsAt}
 use Rattle.rows.specs.Rows.{isAgent, agentBlank, rowBlank, agentGood, boundaryGood, plantGood, contractGood}
-use Rattle.rows.proofs.Good.{and-left, and-right, agent-kind, AgentBlank, agent-blank, row-blank, BoundaryFits, boundary-fits, PlantFits, plant-fits, ContractFits, contract-fits}
+use Rattle.sums.proofs.Tests.{and-left, and-right}
+use Rattle.rows.proofs.Good.{agent-kind, AgentBlank, agent-blank, row-blank, BoundaryFits, boundary-fits, PlantFits, plant-fits, ContractFits, contract-fits}
 use Rattle.sheet.specs.Reading.{boundaryStart, plantStart, sheetLength, lengthGood, countsOf, countsGood, distancesGood, layoutGood, kindAt, agentVerdict, boundaryVerdict, plantVerdict, contractVerdict, checks, readVerdict, reading, readOf}
 use Rattle.sheet.specs.Asking.{agentAt, boundaryAt, plantAt, contractAt}
 use Rattle.sheet.specs.declared.Counts.{Counts}

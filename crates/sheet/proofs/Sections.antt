@@ -12,7 +12,7 @@ use Rattle.refusals.specs.Refusals.{badLength, badLayout, refusal, firstBad}
 use Rattle.refusals.specs.declared.Verdict.{Verdict}
 use Rattle.rows.specs.Bytes.{wordsOf, wordsAt}
 use Rattle.rows.specs.Rows.{agentOf}
-use Rattle.rows.proofs.Good.{and-left, and-right}
+use Rattle.sums.proofs.Tests.{and-left, and-right}
 use Rattle.rows.proofs.Stretch.{stretch-length, stretch-row}
 use Rattle.sheet.specs.Reading.{trailerStart, contractStart, sheetLength, lengthGood, countsOf, countsGood, distancesGood, layoutGood, kindAt, agentVerdict, boundaryVerdict, plantVerdict, contractVerdict, readVerdict, reading, readOf}
 use Rattle.sheet.specs.Asking.{rowsIn, rowsBefore, kindIn, rowGood, toldIn, rowVerdict, sectionVerdict, rowsVerdict, sectionOf, isSection, fieldsAt, askedRow, rowOf, rowIn}

@@ -3,8 +3,8 @@
 // A case is a 32-bit length, the low byte first, and that many bytes.
 ghost use Prim.Native.Nat.{_≤_, _<_};
 ghost use lib.ListN.{length};
+use input::Input;
 use libc::STDERR_FILENO;
-use libc::STDIN_FILENO;
 use libc::STDOUT_FILENO;
 use refusals::Refusal;
 use sheet::Counts;
@@ -20,25 +20,22 @@ enum Got {
     Failed,
 }
 
-fn ended(n: usize) -> Got {
-    if n == 0 { Got::End } else { Got::Cut }
+fn how_full(n: usize, wanted: usize) -> Got {
+    if n == wanted {
+        Got::Full
+    } else if n == 0 {
+        Got::End
+    } else {
+        Got::Cut
+    }
 }
 
 // Reads until the buffer is full.
 fn fill(buf: &mut [u8]) -> Got {
-    let mut n = 0;
-    while n < buf.len() {
-        let got = libc::read(STDIN_FILENO, &mut buf[n..]);
-        if got < 0 {
-            return Got::Failed;
-        }
-        let more = io::count(got, &buf[n..]);
-        if more == 0 {
-            return ended(n);
-        }
-        n += more;
+    match input::read_all(buf) {
+        Input::Bytes(n) => how_full(n, buf.len()),
+        Input::Failed => Got::Failed,
     }
-    Got::Full
 }
 
 fn print_number(n: u64) {

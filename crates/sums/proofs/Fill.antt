@@ -3,7 +3,7 @@ use Prim.Native.Nat.{ℕ, _+_, _≤_, _<_}
 use native.Mathlib.Omega.{arith}
 use native.Mathlib.Decide.{decLt}
 use mathlib.Core.List.{List}
-use mathlib.Core.Path.{_≡_, refl, _∙_, ap, sym}
+use mathlib.Core.Path.{_≡_, refl, _∙_, sym}
 use lib.ListN.{length, set, getD, take, length-set}
 use lib.Seq.{ext-getD, getD-set-same, getD-set-other, getD-take, length-take-le}
 use Rattle.sums.specs.Lists.{Filled, listTo}
@@ -51,8 +51,17 @@ module _ {A : Type 0} (d : A) where
   filled-then l₀ l m n f g r s =
       record { done = s .done; kept = λ k h. s .kept k h ∙ r .kept k h; long = s .long ∙ r .long }
 
-  -- the front of the list is the list of the function
+-- the front of a filled list: cell by cell, its length, and that it is the list of the function
+module _ {A : Type 0} {d : A} (before after : List A) (n : ℕ) (f : ℕ → A) (r : Filled d before after n f) where
+  pub front-at : (i : ℕ) → i < n → getD (take n after) i d ≡ f i
+  front-at i l = getD-take n after i d l ∙ r .done i l
+
+  pub front-fits : n ≤ length before → n ≤ length after
+  front-fits l = omega (arith, r .long)
+
+  pub front-long : n ≤ length before → length (take n after) ≡ n
+  front-long l = length-take-le n after (front-fits l)
+
+module _ {A : Type 0} (d : A) where
   pub filled-front : (l₀ l : List A) (n : ℕ) (f : ℕ → A) → n ≤ length l₀ → Filled d l₀ l n f → take n l ≡ listTo f n
-  filled-front l₀ l n f h r =
-      listTo-is d f n (take n l) (length-take-le n l (omega (arith, r .long)))
-      (λ i m. getD-take n l i d m ∙ r .done i m)
+  filled-front l₀ l n f h r = listTo-is d f n (take n l) (front-long l₀ l n f r h) (front-at l₀ l n f r)

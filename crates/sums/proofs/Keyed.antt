@@ -2,6 +2,7 @@
 use Prim.Native.Nat.{ℕ, zero, suc, _+_, _*_, _≤_, _<_}
 use native.Mathlib.Omega.{arith}
 use native.Mathlib.Decide.{ℕ-discrete}
+use mathlib.Core.Bool.{Bool, true, false}
 use mathlib.Core.Path.{_≡_, refl, ap, _∙_, sym}
 use mathlib.Core.List.{List}
 use lib.Dec.{eqb}
@@ -49,6 +50,17 @@ module _ (key v : ℕ → ℕ) where
       sum-swap n m (λ k j. pick (eqb (key j) k) (v j))
       ∙ sum-eq m (λ j. sum n (λ k. pick (eqb (key j) k) (v j))) v (λ j l. sum-one n (key j) (v j) (h j l))
 
+-- a sum over the rows of the key k, each by its place among them
+pub keyed-places : (key : ℕ → ℕ) (k : ℕ) (g : ℕ → ℕ) (n : ℕ) → sum n (λ j. pick (eqb (key j) k) (g (keyed key (λ _. 1) j k))) ≡ sum (keyed key (λ _. 1) n k) g
+unfolding keyed sum pick
+keyed-places key k g zero = refl
+keyed-places key k g (suc n) = go (eqb (key n) k) (keyed-places key k g n)
+  where
+    go : (t : Bool) → sum n (λ j. pick (eqb (key j) k) (g (keyed key (λ _. 1) j k))) ≡ sum (keyed key (λ _. 1) n k) g
+        → sum n (λ j. pick (eqb (key j) k) (g (keyed key (λ _. 1) j k))) + pick t (g (keyed key (λ _. 1) n k)) ≡ sum (keyed key (λ _. 1) n k + pick t 1) g
+    go true h = rw (sum-step (keyed key (λ _. 1) n k) g) (omega arith)
+    go false h = let e : keyed key (λ _. 1) n k + 0 ≡ keyed key (λ _. 1) n k = omega arith in rw e (omega arith)
+
 -- equal keys and values
 pub keyed-eq : (key key′ v w : ℕ → ℕ) (m k : ℕ) → ((j : ℕ) → j < m → key j ≡ key′ j) → ((j : ℕ) → j < m → v j ≡ w j) → keyed key v m k ≡ keyed key′ w m k
 unfolding keyed
@@ -56,28 +68,30 @@ keyed-eq key key′ v w m k g h =
     sum-eq m (λ j. pick (eqb (key j) k) (v j)) (λ j. pick (eqb (key′ j) k) (w j))
     (λ j l. ap (λ (z : ℕ). pick (eqb z k) (v j)) (g j l) ∙ ap (pick (eqb (key′ j) k)) (h j l))
 
--- one row more, put into the cell of its key, which holds g too
-pub keyed-beside : (key v g : ℕ → ℕ) (m n : ℕ) (out : List ℕ) → key m < n → length out ≡ n
-    → ((a : ℕ) → a < n → at out a ≡ keyed key v m a + g a)
-    → (a : ℕ) → a < n → at (set out (key m) (at out (key m) + v m)) a ≡ keyed key v (m + 1) a + g a
-keyed-beside key v g m n out l e h a la = go (ℕ-discrete (key m) a)
+-- one row more, of the key k and the value w, put into the cell of its key: what cell a holds, which has g too
+pub keyed-beside : (key v : ℕ → ℕ) (m : ℕ) (out : List ℕ) (k w : ℕ) → k ≡ key m → w ≡ v m → k < length out
+    → (a g : ℕ) → at out a ≡ keyed key v m a + g → at (set out k (at out k + w)) a ≡ keyed key v (m + 1) a + g
+keyed-beside key v m out k w p q l a g h = go (ℕ-discrete k a)
   where
-    go : Dec (key m ≡ a) → at (set out (key m) (at out (key m) + v m)) a ≡ keyed key v (m + 1) a + g a
-    go (yes q) =
+    step : keyed key v (m + 1) a ≡ keyed key v m a + pick (eqb k a) w
+    step = rw (p, q) (keyed-step key v m a)
+
+    go : Dec (k ≡ a) → at (set out k (at out k + w)) a ≡ keyed key v (m + 1) a + g
+    go (yes r) =
         omega (
           arith,
-          ap (λ (z : ℕ). at (set out (key m) (at out (key m) + v m)) z) (sym q),
-          getD-set-same out (key m) (at out (key m) + v m) 0 (omega arith),
-          h (key m) l,
-          keyed-step key v m a,
-          pick-eq (key m) a (v m) q,
-          ap (λ (z : ℕ). keyed key v m z + g z) q,
+          ap (at (set out k (at out k + w))) (sym r),
+          getD-set-same out k (at out k + w) 0 l,
+          ap (at out) r,
+          h,
+          step,
+          pick-eq k a w r,
         )
-    go (no q) = omega (arith, getD-set-other out (key m) a (at out (key m) + v m) 0 (λ z. q (sym z)), h a la, keyed-step key v m a, pick-ne (key m) a (v m) q)
+    go (no r) = omega (arith, getD-set-other out k a (at out k + w) 0 (λ z. r (sym z)), h, step, pick-ne k a w r)
 
 -- the same, where it holds nothing else
-pub keyed-set : (key v : ℕ → ℕ) (m n : ℕ) (out : List ℕ) → key m < n → length out ≡ n
+pub keyed-put : (key v : ℕ → ℕ) (m n : ℕ) (out : List ℕ) (k w : ℕ) → k ≡ key m → w ≡ v m → k < n → length out ≡ n
     → ((a : ℕ) → a < n → at out a ≡ keyed key v m a)
-    → (a : ℕ) → a < n → at (set out (key m) (at out (key m) + v m)) a ≡ keyed key v (m + 1) a
-keyed-set key v m n out l e h a la =
-    omega (arith, keyed-beside key v (λ _. 0) m n out l e (λ b k. omega (arith, h b k)) a la)
+    → (a : ℕ) → a < n → at (set out k (at out k + w)) a ≡ keyed key v (m + 1) a
+keyed-put key v m n out k w p q l e h a la =
+    omega (arith, keyed-beside key v m out k w p q (omega arith) a 0 (omega (arith, h a la)))

@@ -3,10 +3,10 @@ use Prim.Native.Nat.{ℕ, zero, suc, _+_, _-_, _≤_, _<_}
 use native.Mathlib.Omega.{arith}
 use native.Mathlib.Nat.{sub-zero}
 use native.Mathlib.Decide.{decLt, ℕ-discrete}
-use mathlib.Core.Bool.{Bool, true, false}
+use mathlib.Core.Bool.{Bool, true, false, _&&_}
 use mathlib.Core.Path.{_≡_, refl, ap, _∙_, sym}
-use lib.Dec.{ltb, leb, eqb}
-use borrow.Author.Tests.{lt-ltb, le-ltb, le-leb, lt-leb, eq-eqb, ne-eqb}
+use lib.Dec.{ltb, eqb}
+use borrow.Author.Tests.{lt-ltb, le-ltb, eq-eqb, ne-eqb}
 use Rattle.sums.specs.Sums.{sum, pick}
 use Rattle.sums.proofs.Sums.{sum-eq}
 
@@ -31,6 +31,22 @@ pub pick-same : (t : Bool) (v w : ℕ) → (t ≡ true → v ≡ w) → pick t v
 unfolding pick
 pick-same true v w h = h refl
 pick-same false v w h = refl
+
+-- two tests of one value, and a pick of a sum
+pub pick-both : (t u : Bool) (v : ℕ) → pick (t && u) v ≡ pick t (pick u v)
+unfolding pick
+pick-both true u v = refl
+pick-both false u v = refl
+
+pub pick-swap : (t u : Bool) (v : ℕ) → pick t (pick u v) ≡ pick u (pick t v)
+unfolding pick
+pick-swap true u v = refl
+pick-swap false u v = sym (pick-zero u)
+
+pub pick-plus : (t : Bool) (v w : ℕ) → pick t (v + w) ≡ pick t v + pick t w
+unfolding pick
+pick-plus true v w = refl
+pick-plus false v w = refl
 
 -- a function that is 0 at 0 goes through a pick
 pub pick-out : (t : Bool) (v : ℕ) (f : ℕ → ℕ) → f 0 ≡ 0 → f (pick t v) ≡ pick t (f v)

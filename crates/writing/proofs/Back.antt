@@ -3,15 +3,15 @@ use Prim.Native.Nat.{ℕ, _+_, _-_, _*_, _/_, _<_, _≤_}
 use native.Mathlib.Omega.{arith}
 use native.Mathlib.Decide.{decLt}
 use mathlib.Core.Path.{_≡_, ap, sym, subst, _∙_}
-use mathlib.Core.Bool.{_&&_}
-use mathlib.Core.List.{List}
+use mathlib.Core.List.{List, [], _∷_}
 use borrow.Author.Tests.{eqb-true}
 use lib.ListN.{length}
 use lib.Dec.{eqb}
+use Rattle.sums.proofs.Tests.{all-true}
 use Rattle.rows.specs.Bytes.{wordsAt, wordsOf}
 use Rattle.rows.specs.Rows.{agentGood}
 use Rattle.rows.specs.declared.Words.{Words}
-use Rattle.rows.proofs.Good.{and-left, and-right, agent-blank, row-blank}
+use Rattle.rows.proofs.Good.{agent-blank, row-blank}
 use Rattle.rows.proofs.Trip.{Bytes, row-narrow, bytes-back}
 use Rattle.sheet.specs.Reading.{boundaryStart, plantStart, contractStart, trailerStart, countsOf, distancesGood}
 use Rattle.sheet.specs.declared.Counts.{Counts}
@@ -40,20 +40,15 @@ module _ (s : List ℕ) (c : Counts) (w : Whole s c) where
       let k = trailerStart c in
       let u = wordsAt s k in
       let v = wordsAt s (k + 1) in
-      let x = eqb (u .first) (16 * k) in
-      let y = eqb (u .third) (16 * (k - boundaryStart c)) in
-      let z = eqb (v .first) (16 * (k - plantStart c)) in
       let e = rw starts at (w .counts) in
-      let d₃ = rw starts at (w .distances) in
-      let d₂ = and-left (x && y && z) _ d₃ in
-      let d₁ = and-left (x && y) z d₂ in
-      let f1 : u .first ≡ 16 * k = eqb-true _ _ (and-left x y d₁) in
+      let all = all-true (eqb (u .first) (16 * k)) (eqb (u .third) (16 * (k - boundaryStart c)) ∷ eqb (v .first) (16 * (k - plantStart c)) ∷ eqb (v .third) (16 * (k - contractStart c)) ∷ []) (rw starts at (w .distances)) in
+      let f1 : u .first ≡ 16 * k = eqb-true _ _ (all .0) in
       let f2 : u .second ≡ c .agents = ap (λ (k : Counts). k .agents) e in
-      let f3 : u .third ≡ 16 * (k - boundaryStart c) = eqb-true _ _ (and-right x y d₁) in
+      let f3 : u .third ≡ 16 * (k - boundaryStart c) = eqb-true _ _ (all .1 .0) in
       let f4 : u .fourth ≡ c .boundaries = ap (λ (k : Counts). k .boundaries) e in
-      let s1 : v .first ≡ 16 * (k - plantStart c) = eqb-true _ _ (and-right (x && y) z d₂) in
+      let s1 : v .first ≡ 16 * (k - plantStart c) = eqb-true _ _ (all .1 .1 .0) in
       let s2 : v .second ≡ c .plants = ap (λ (k : Counts). k .plants) e in
-      let s3 : v .third ≡ 16 * (k - contractStart c) = eqb-true _ _ (and-right (x && y && z) _ d₃) in
+      let s3 : v .third ≡ 16 * (k - contractStart c) = eqb-true _ _ (all .1 .1 .1 .0) in
       let s4 : v .fourth ≡ c .contracts = ap (λ (k : Counts). k .contracts) e in
       record { first = words-eq u _ f1 f2 f3 f4; second = words-eq v _ s1 s2 s3 s4 }
     where

@@ -1,18 +1,18 @@
 -- What writing has made sure of in lists that it takes, and the way back: lists of which all this holds are taken. Assumes nothing.
 use Prim.Native.Nat.{ℕ, zero, suc, _*_, _%_, _<_, _≤_}
 use native.Mathlib.Omega.{arith}
-use mathlib.Core.Path.{_≡_, refl}
-use mathlib.Core.Bool.{Bool, true, false, _&&_, cond}
+use mathlib.Core.Path.{_≡_}
+use mathlib.Core.Bool.{Bool, true, false, cond}
 use mathlib.Core.List.{List, [], _∷_}
-use mathlib.Core.Logic.{_⊎_, inl, inr}
+use mathlib.Core.Logic.{⊎-elim}
 use borrow.Author.Tests.{leb-true, eqb-true, le-leb, eq-eqb}
 use lib.ListN.{length}
 use lib.Dec.{leb, eqb}
 use Rattle.sums.specs.Lists.{at}
-use Rattle.refusals.specs.Refusals.{orElse}
+use Rattle.sums.proofs.Tests.{all-true, and-both}
 use Rattle.refusals.specs.declared.Verdict.{Verdict}
 use Rattle.rows.specs.Rows.{isAgent, agentGood, boundaryGood, plantGood, contractGood}
-use Rattle.rows.proofs.Good.{and-left, and-right, both, agent-kind}
+use Rattle.rows.proofs.Good.{agent-kind}
 use Rattle.sheet.specs.Reading.{trailerStart, countsGood, sheetLength}
 use Rattle.sheet.specs.Asking.{rowsIn}
 use Rattle.sheet.proofs.Accepted.{Few, good-few}
@@ -81,17 +81,12 @@ pub record WholeRows (n : Numbers) : Type 0 where
   pub contracts : length (n .contracts) ≡ 5 * countsIn n .contracts
 
 pub good-rows : (n : Numbers) → listsGood n ≡ true → WholeRows n
-good-rows n e₃ =
-    let k = countsGood (countsIn n) in
-    let b = eqb (length (n .boundaries) % 4) 0 in
-    let p = eqb (length (n .plants) % 4) 0 in
-    let c = eqb (length (n .contracts) % 5) 0 in
-    let e₂ = and-left (k && b && p) c e₃ in
-    let e₁ = and-left (k && b) p e₂ in
-    let u = eqb-true (length (n .boundaries) % 4) 0 (and-right k b e₁) in
-    let v = eqb-true (length (n .plants) % 4) 0 (and-right (k && b) p e₂) in
-    let w = eqb-true (length (n .contracts) % 5) 0 (and-right (k && b && p) c e₃) in
-    record { counts = and-left k b e₁; boundaries = omega arith; plants = omega arith; contracts = omega arith }
+good-rows n e =
+    let all = all-true (countsGood (countsIn n)) (eqb (length (n .boundaries) % 4) 0 ∷ eqb (length (n .plants) % 4) 0 ∷ eqb (length (n .contracts) % 5) 0 ∷ []) e in
+    let u = eqb-true (length (n .boundaries) % 4) 0 (all .1 .0) in
+    let v = eqb-true (length (n .plants) % 4) 0 (all .1 .1 .0) in
+    let w = eqb-true (length (n .contracts) % 5) 0 (all .1 .1 .1 .0) in
+    record { counts = all .0; boundaries = omega arith; plants = omega arith; contracts = omega arith }
 
 pub rows-good : (n : Numbers) → WholeRows n → listsGood n ≡ true
 rows-good n r =
@@ -101,7 +96,7 @@ rows-good n r =
     let x : length (n .boundaries) % 4 ≡ 0 = omega arith in
     let y : length (n .plants) % 4 ≡ 0 = omega arith in
     let z : length (n .contracts) % 5 ≡ 0 = omega arith in
-    both _ _ (both _ _ (both _ _ (r .counts) (eq-eqb _ _ x)) (eq-eqb _ _ y)) (eq-eqb _ _ z)
+    and-both (and-both (and-both (r .counts) (eq-eqb _ _ x)) (eq-eqb _ _ y)) (eq-eqb _ _ z)
 
 pub lists-few : (n : Numbers) → listsGood n ≡ true → Few (countsIn n)
 lists-few n e = good-few (countsIn n) (good-rows n e .counts)
@@ -113,18 +108,10 @@ listed-there (a ∷ l) zero h = omega arith
 listed-there (a ∷ l) (suc x) h = let k = listed-there l x h in omega arith
 
 pub agent-least : (kind : ℕ) → isAgent kind ≡ true → 0 < kind
-agent-least kind e = go (agent-kind kind e)
-  where
-    go : (kind ≡ 1) ⊎ (kind ≡ 2) → 0 < kind
-    go (inl h) = omega arith
-    go (inr h) = omega arith
+agent-least kind e = ⊎-elim (λ h. omega arith) (λ h. omega arith) (agent-kind kind e)
 
 pub agent-most : (kind : ℕ) → isAgent kind ≡ true → kind ≤ 2
-agent-most kind e = go (agent-kind kind e)
-  where
-    go : (kind ≡ 1) ⊎ (kind ≡ 2) → kind ≤ 2
-    go (inl h) = omega arith
-    go (inr h) = omega arith
+agent-most kind e = ⊎-elim (λ h. omega arith) (λ h. omega arith) (agent-kind kind e)
 
 -- ---- sizes are small
 pub lists-small : (n : Numbers) → listsGood n ≡ true → trailerStart (countsIn n) < 65536
@@ -141,8 +128,3 @@ rows-small n section e = go (eqb section 1) (eqb section 2) (eqb section 3) (eqb
     go false false true w = let l = lists-small n e in omega arith
     go false false false true = let l = lists-small n e in omega arith
     go false false false false = omega arith
-
--- nothing after the last check
-pub or-last : (v : Verdict) → v ≡ orElse v Verdict.Fine
-or-last Verdict.Fine = refl
-or-last (Verdict.Refused r) = refl

@@ -65,7 +65,7 @@ back s c by e =
     }
 
 -- ---- of what `write` itself promises
-done-says : (v : Verdict) (k m : ℕ) → Writing.Done k ≡ writing v m → (v ≡ Verdict.Fine) × (k ≡ m)
+pub done-says : (v : Verdict) (k m : ℕ) → Writing.Done k ≡ writing v m → (v ≡ Verdict.Fine) × (k ≡ m)
 done-says Verdict.Fine k m e = (refl, cc)
 done-says (Verdict.Refused r) k m e = let z : _≡_ {A = ℕ} 0 1 = cc in absurd (omega arith)
 

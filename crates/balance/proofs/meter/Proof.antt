@@ -8,11 +8,12 @@ use Rattle.rows.specs.declared.Boundary.{Boundary}
 use Rattle.sums.specs.Sums.{keyed}
 use Rattle.sums.specs.Lists.{at}
 use Rattle.sums.proofs.Lists.{zeros-at}
-use Rattle.sums.proofs.Keyed.{keyed-none}
+use Rattle.sums.proofs.Keyed.{keyed-none, keyed-put}
+use Rattle.sheet.proofs.Accepted.{accepted-few}
 use Rattle.hour.specs.Balance.{referred}
 use Rattle.hour.proofs.Bounds.{referred-le}
 use Rattle.balance.specs.Balances.{zeros}
-use Rattle.balance.proofs.Rows.{keyed-put, row, owner, taken, given, RowSound, row-sound, few-agents, few-boundaries, taken-most, given-most, imported-is, exported-is}
+use Rattle.balance.proofs.Rows.{row, owner, taken, given, RowSound, row-sound, taken-most, given-most, imported-is, exported-is}
 use Rattle.balance.proofs.meter.Statement.{statement}
 use Rattle.balance.proofs.meter.Tie as tie
 
@@ -45,7 +46,7 @@ loop-holds c = (
     none l e a = rw e (zeros-at 64 a)
 
 add-row-at : tie.Need-add-row-at Inv-loop μ-loop
-add-row-at c = omega (arith, few-agents _ _ ((c .before .before .before .before .before) .pre .0), few-boundaries _ _ ((c .before .before .before .before .before) .pre .0))
+add-row-at c = omega (arith, accepted-few _ _ ((c .before .before .before .before .before) .pre .0) .agents, accepted-few _ _ ((c .before .before .before .before .before) .pre .0) .boundaries)
 
 mul-imports : tie.Need-mul-imports Inv-loop μ-loop
 mul-imports c = omega (arith, good (c .before) .there, (c .before .before .before .before) .loop .inv .1)
@@ -66,7 +67,7 @@ add-imports c =
       referred-le (b .import) (b .factor) (g .import) (g .factor),
       (c .before .before .before .before .before .before) .loop .inv .3 (b .agent) (g .there),
       taken-most _ _ ((c .before .before .before .before .before .before .before .before .before .before) .pre .0) ((c .before .before .before .before .before .before) .loop .j) (b .agent) (omega arith),
-      few-boundaries _ _ ((c .before .before .before .before .before .before .before .before .before .before) .pre .0),
+      accepted-few _ _ ((c .before .before .before .before .before .before .before .before .before .before) .pre .0) .boundaries,
     )
 
 mul-imports-2 : tie.Need-mul-imports-2 Inv-loop μ-loop
@@ -94,7 +95,7 @@ add-exports c =
       referred-le (b .export) (b .factor) (g .export) (g .factor),
       (c .before .before .before .before .before .before .before .before) .loop .inv .4 (b .agent) (g .there),
       given-most _ _ ((c .before .before .before .before .before .before .before .before .before .before .before .before) .pre .0) ((c .before .before .before .before .before .before .before .before) .loop .j) (b .agent) (omega arith),
-      few-boundaries _ _ ((c .before .before .before .before .before .before .before .before .before .before .before .before) .pre .0),
+      accepted-few _ _ ((c .before .before .before .before .before .before .before .before .before .before .before .before) .pre .0) .boundaries,
     )
 
 mul-exports-2 : tie.Need-mul-exports-2 Inv-loop μ-loop

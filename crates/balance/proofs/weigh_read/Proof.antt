@@ -13,6 +13,7 @@ use Rattle.sums.proofs.Fill.{filled-by, filled-count}
 use Rattle.columns.specs.Columns.{columnsOf}
 use Rattle.columns.proofs.Columns.{agents-long, kind-at, sound}
 use Rattle.hour.specs.Sheet.{Sheet, agents}
+use Rattle.sheet.proofs.Accepted.{accepted-few}
 use Rattle.hour.specs.Sound.{Sound}
 use Rattle.hour.specs.Balance.{consumption, consumptions, ownImport, losses, lossShare, commercial, hourDemand, entering, leaving}
 use Rattle.hour.specs.Answer.{balanceVerdict}
@@ -20,7 +21,6 @@ use Rattle.hour.proofs.Verdicts.{Balanced, balanced}
 use Rattle.hour.proofs.Bounds.{leaving-le, entering-le, consumed-most}
 use Rattle.hour.proofs.Fits.{commercial-most, demand-most}
 use Rattle.balance.specs.Balances.{zeros, nothing, Read}
-use Rattle.balance.proofs.Rows.{few-agents}
 use Rattle.balance.proofs.ByAgent.{entering-is, leaving-is, consumed-is, used-is, own-is, commercial-is, fits-by, shares-are, weights-are, demand-is}
 use Rattle.balance.proofs.Weighed.{counts-fine, nothing-is}
 use Rattle.balance.proofs.weigh_read.Statement.{statement}
@@ -30,7 +30,7 @@ abbrev sheet : tie.Start → Sheet
 sheet c = columnsOf (c .args .s .now) (c .args .c)
 
 few : (c : tie.Start) → c .args .c .agents ≤ 64
-few c = few-agents _ _ (c .pre)
+few c = accepted-few _ _ (c .pre) .agents
 
 ok : (c : tie.Start) → Sound (sheet c)
 ok c = sound _ _ (c .pre)

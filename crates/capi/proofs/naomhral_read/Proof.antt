@@ -1,19 +1,15 @@
-use Prim.Native.Nat.{_≤_}
-use mathlib.Core.Path.{_≡_, refl, sym, _∙_}
+use mathlib.Core.Path.{ap, sym, _∙_}
 use native.Mathlib.Omega.{arith}
 use borrow.Author.Needs.{needs}
-use borrow.Author.Tests.{le-leb, lt-leb}
 use denote.Ref.{now}
-use Rattle.sums.proofs.Fill.{filled-none}
-use Rattle.sheet.specs.Reading.{readOf}
 use Rattle.sheet.proofs.Accepted.{Few, accepted-few}
+use Rattle.capi.specs.Told.{readAnswer}
+use Rattle.capi.proofs.Told.{told-short, told-all}
 use Rattle.capi.proofs.naomhral_read.Statement.{statement}
 use Rattle.capi.proofs.naomhral_read.Tie as tie
 
 returns : tie.Need-returns
-returns c =
-    let short = lt-leb _ _ (c .if1 .taken) in
-    record { number = rw short; answer = rw short (filled-none 0 _ _) }
+returns c = told-short (c .if1 .taken)
 
 -- reading has accepted, so the counts are small
 few : (c : tie.After-c) → Few (c .c .given .0 .0)
@@ -33,15 +29,13 @@ cast-t14 c = omega (arith, few (c .before .before .before .before .before) .cont
 
 returns-2 : tie.Need-returns-2
 returns-2 c =
-    let room = le-leb _ _ ((c .before .before .before .before .before .before .before .before .before .before .before .before .before) .if1 .left) in
     let e = sym ((c .before .before .before .before .before .before .before .before .before .before .before .before) .read .ensures) ∙ (c .before .before .before .before .before .before .before .before .before .before) .c .given .1 in
-    record { number = rw (room, e); answer = rw (room, e) ((c .before .before) .tell .ensures) }
+    told-all _ ((c .before .before .before .before .before .before .before .before .before .before .before .before .before) .if1 .left) (ap readAnswer e) ((c .before .before) .tell .ensures)
 
 returns-3 : tie.Need-returns-3
 returns-3 c =
-    let room = le-leb _ _ ((c .before .before .before .before .before .before .before .before .before) .if1 .left) in
     let e = sym ((c .before .before .before .before .before .before .before .before) .read .ensures) ∙ (c .before .before .before .before .before .before) .why .given .1 in
-    record { number = rw (room, e); answer = rw (room, e) ((c .before .before) .tell2 .ensures) }
+    told-all _ ((c .before .before .before .before .before .before .before .before .before) .if1 .left) (ap readAnswer e) ((c .before .before) .tell2 .ensures)
 
 pub naomhral-read-spec : {M : Type 1} → statement M
 naomhral-read-spec =

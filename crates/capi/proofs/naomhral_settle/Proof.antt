@@ -1,19 +1,18 @@
-use mathlib.Core.Path.{_≡_, refl, sym, ap, _∙_}
+use mathlib.Core.Path.{refl, sym, ap}
 use borrow.Author.Needs.{needs}
 use borrow.Author.Tests.{le-leb, lt-leb}
 use lib.IntN.{pos}
 use Rattle.sums.proofs.Fill.{filled-none}
-use Rattle.hour.specs.declared.Summary.{Summary}
+use Rattle.capi.specs.Told.{summaryAnswer}
+use Rattle.capi.proofs.Told.{told-short, told-all}
 use Rattle.capi.proofs.naomhral_settle.Statement.{statement}
 use Rattle.capi.proofs.naomhral_settle.Tie as tie
 
 returns : tie.Need-returns
 returns c =
-    let short = lt-leb _ _ (c .if1 .taken) in
     record {
-      number = rw short;
-      answer = rw short (filled-none 0 _ _);
-      hour = rw short
+      told = told-short (c .if1 .taken);
+      hour = rw (lt-leb _ _ (c .if1 .taken))
           (record {
             answered = refl;
             figures = filled-none 0 _ _;
@@ -25,13 +24,9 @@ returns c =
 
 returns-2 : tie.Need-returns-2
 returns-2 c =
-    let room = le-leb _ _ ((c .before .before .before .before .before .before .before .before .before .before .before .before .before .before .before .before .before) .if1 .left) in
+    let room = (c .before .before .before .before .before .before .before .before .before .before .before .before .before .before .before .before .before) .if1 .left in
     let s = (c .before .before .before .before .before .before .before .before .before .before .before .before) .settle .ensures in
-    record {
-      number = rw (room, ← (s .answered));
-      answer = rw (room, ← (s .answered)) ((c .before .before) .tell .ensures);
-      hour = rw (room, ← (s .answered)) s;
-    }
+    record { told = told-all _ room (ap summaryAnswer (sym (s .answered))) ((c .before .before) .tell .ensures); hour = rw (le-leb _ _ room, ← (s .answered)) s }
 
 pub naomhral-settle-spec : {M : Type 1} → statement M
 naomhral-settle-spec =

@@ -1,24 +1,18 @@
-use Prim.Native.Nat.{ℕ, _≤_}
-use mathlib.Core.Path.{_≡_, refl, sym, ap, _∙_}
-use mathlib.Core.List.{List}
+use mathlib.Core.Path.{sym, ap, _∙_}
 use native.Mathlib.Omega.{arith}
 use borrow.Author.Needs.{needs}
 use borrow.Author.Tests.{le-leb, lt-leb}
 use denote.Ref.{now}
 use lib.ListN.{length}
 use Rattle.sums.proofs.Fill.{filled-none}
-use Rattle.refusals.specs.declared.Verdict.{Verdict}
-use Rattle.sheet.specs.Reading.{sheetLength}
-use Rattle.writing.specs.Numbers.{Numbers, numbers, countsIn}
-use Rattle.writing.specs.Judged.{writeVerdict, writing}
-use Rattle.capi.proofs.Told.{done-small}
+use Rattle.writing.specs.Numbers.{numbers}
+use Rattle.capi.specs.Told.{writeAnswer}
+use Rattle.capi.proofs.Told.{done-small, told-short, told-all}
 use Rattle.capi.proofs.naomhral_write.Statement.{statement}
 use Rattle.capi.proofs.naomhral_write.Tie as tie
 
 returns : tie.Need-returns
-returns c =
-    let short = lt-leb _ _ (c .if1 .taken) in
-    record { number = rw short; answer = rw short (filled-none 0 _ _); sheet = rw short (filled-none 0 _ _) }
+returns c = record { told = told-short (c .if1 .taken); sheet = rw (lt-leb _ _ (c .if1 .taken)) (filled-none 0 _ _) }
 
 cast-t17 : tie.Need-cast-t17
 cast-t17 c =
@@ -28,15 +22,15 @@ cast-t17 c =
 
 returns-2 : tie.Need-returns-2
 returns-2 c =
-    let room = le-leb _ _ ((c .before .before .before .before .before .before .before .before .before .before .before .before) .if1 .left) in
+    let room = (c .before .before .before .before .before .before .before .before .before .before .before .before) .if1 .left in
     let e = sym ((c .before .before .before .before .before .before .before .before .before .before) .write .ensures .answer) ∙ (c .before .before .before .before .before .before) .n .given .1 in
-    record { number = rw (room, e); answer = rw (room, e) ((c .before .before) .tell .ensures); sheet = rw room ((c .before .before .before .before .before .before .before .before .before .before) .write .ensures .bytes) }
+    record { told = told-all _ room (ap writeAnswer e) ((c .before .before) .tell .ensures); sheet = rw (le-leb _ _ room) ((c .before .before .before .before .before .before .before .before .before .before) .write .ensures .bytes) }
 
 returns-3 : tie.Need-returns-3
 returns-3 c =
-    let room = le-leb _ _ ((c .before .before .before .before .before .before .before .before .before .before .before .before) .if1 .left) in
+    let room = (c .before .before .before .before .before .before .before .before .before .before .before .before) .if1 .left in
     let e = sym ((c .before .before .before .before .before .before .before .before .before .before) .write .ensures .answer) ∙ (c .before .before .before .before .before .before) .why .given .1 in
-    record { number = rw (room, e); answer = rw (room, e) ((c .before .before) .tell2 .ensures); sheet = rw room ((c .before .before .before .before .before .before .before .before .before .before) .write .ensures .bytes) }
+    record { told = told-all _ room (ap writeAnswer e) ((c .before .before) .tell2 .ensures); sheet = rw (le-leb _ _ room) ((c .before .before .before .before .before .before .before .before .before .before) .write .ensures .bytes) }
 
 pub naomhral-write-spec : {M : Type 1} → statement M
 naomhral-write-spec =

@@ -7,7 +7,7 @@ use mathlib.Core.Path.{_≡_, refl, _∙_, sym, ap}
 use Rattle.refusals.specs.declared.Verdict.{Verdict}
 use Rattle.sums.specs.Sums.{sum}
 use Rattle.sums.specs.Lists.{at}
-use Rattle.sums.proofs.Fill.{filled-count}
+use Rattle.sums.proofs.Fill.{filled-count, front-fits, front-long}
 use Rattle.columns.specs.Columns.{columnsOf}
 use Rattle.columns.proofs.Columns.{agents-long, sound}
 use Rattle.hour.specs.Sheet.{Sheet, agents, plants}
@@ -18,7 +18,7 @@ use Rattle.hour.proofs.Bounds.{price-le}
 use Rattle.balance.proofs.Weighed.{weighed-accepted, weighed-few}
 use Rattle.settle.specs.Parts.{judged}
 use Rattle.settle.specs.Settled.{lent, verdictOf}
-use Rattle.settle.proofs.Stages.{front-fits, front-long, figures-are, money-are, lines-fit}
+use Rattle.settle.proofs.Stages.{figures-are, money-are, lines-fit}
 use Rattle.settle.proofs.Judged.{verdict-is, Open, opened, sheet-is, demands-are, turned-away}
 use Rattle.settle.proofs.settle.Statement.{statement}
 use Rattle.settle.proofs.settle.Tie as tie

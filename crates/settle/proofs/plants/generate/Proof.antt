@@ -4,7 +4,7 @@ use Prim.Native.Nat.{_≤_}
 use mathlib.Core.Path.{_≡_, _∙_, sym}
 use lib.ListN.{length, take}
 use Rattle.sums.specs.Lists.{Filled}
-use Rattle.sums.proofs.Fill.{filled-count}
+use Rattle.sums.proofs.Fill.{filled-count, front-fits, front-long}
 use Rattle.sheet.proofs.Accepted.{accepted-few}
 use Rattle.columns.specs.Columns.{columnsOf}
 use Rattle.columns.proofs.Columns.{plants-long, sound}
@@ -12,7 +12,7 @@ use Rattle.hour.specs.Sheet.{Sheet, plants}
 use Rattle.hour.specs.Sound.{Sound}
 use Rattle.hour.specs.Lines.{scheduled}
 use Rattle.settle.proofs.Fronts.{holders-are, flags-are, offers-are, available-are}
-use Rattle.settle.proofs.Stages.{front-fits, front-long, scheduled-are, price-is, plants-count, own-is, demand-small}
+use Rattle.settle.proofs.Stages.{scheduled-are, price-is, plants-count, own-is, demand-small}
 use Rattle.settle.proofs.plants.generate.Statement.{statement}
 use Rattle.settle.proofs.plants.generate.Tie as tie
 

@@ -7,9 +7,8 @@ use Rattle.rows.specs.Rows.{plantOf}
 use Rattle.rows.specs.declared.Plant.{Plant}
 use Rattle.sums.specs.Sums.{sum}
 use Rattle.sums.proofs.Sums.{sum-none, sum-step, sum-most, sum-eq}
-use Rattle.sheet.proofs.Accepted.{accepted-few}
+use Rattle.sheet.proofs.Accepted.{accepted-few, accepted-plant}
 use Rattle.columns.proofs.Columns.{plants-long, available-at}
-use Rattle.settle.proofs.Fronts.{row-available}
 use Rattle.settle.proofs.plants.offered.Statement.{statement}
 use Rattle.settle.proofs.plants.offered.Tie as tie
 
@@ -39,8 +38,8 @@ add-sum c =
     omega (
       arith,
       ap (λ (p : Plant). p .availability) (is ((c .before))),
-      row-available _ _ ((c .before .before .before .before .before .before .before) .pre) (l .i) (omega arith),
-      sum-most (l .i) 4000000 (λ j. plantOf (wordsAt (a .bytes .now) (a .c .agents + a .c .boundaries + j)) .availability) (λ j m. row-available _ _ ((c .before .before .before .before .before .before .before) .pre) j (omega arith)),
+      accepted-plant _ _ ((c .before .before .before .before .before .before .before) .pre) (l .i) (omega arith) .fits .availability,
+      sum-most (l .i) 4000000 (λ j. plantOf (wordsAt (a .bytes .now) (a .c .agents + a .c .boundaries + j)) .availability) (λ j m. accepted-plant _ _ ((c .before .before .before .before .before .before .before) .pre) j (omega arith) .fits .availability),
       accepted-few _ _ ((c .before .before .before .before .before .before .before) .pre),
     )
 

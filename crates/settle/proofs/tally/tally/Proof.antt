@@ -1,7 +1,7 @@
 use borrow.Author.Needs.{needs}
 use native.Mathlib.Omega.{arith}
 use Prim.Native.Nat.{ℕ, _≤_, _<_, _+_, _-_}
-use mathlib.Core.Path.{_≡_, _∙_, sym}
+use mathlib.Core.Path.{_≡_, refl, _∙_, sym}
 use lib.ListN.{length, length-set}
 use Rattle.sums.specs.Sums.{keyed}
 use Rattle.sums.specs.Lists.{at}
@@ -55,7 +55,7 @@ loop-again : tie.Need-loop-again Inv-loop μ-loop
 loop-again c =
     let l = (c .before .before .before .before) .loop in
     let a = (c .before .before .before .before .before) .args in
-    (omega arith, simp length-set (l .inv .1), keyed-beside (at (a .keys .now)) (at (a .values .now)) (at (a .out .now)) (l .j) 64 (l .out) (there (c .before .before .before)) (l .inv .1) (l .inv .2))
+    (omega arith, simp length-set (l .inv .1), λ b m. keyed-beside (at (a .keys .now)) (at (a .values .now)) (l .j) (l .out) _ _ refl refl (omega (arith, there (c .before .before .before), l .inv .1)) b _ (l .inv .2 b m))
 
 same-length : tie.Need-same-length Inv-loop μ-loop
 same-length c = (c .before) .loop .inv .1 ∙ sym ((c .before .before) .pre .cells)

@@ -1,14 +1,14 @@
 use Rattle.writing.specs.Judged.{listsGood, sectionListed, writeVerdict}
 use Rattle.writing.specs.Numbers.{Numbers, numbers, countsIn}
-use Rattle.writing.proofs.Good.{lists-small, or-last}
+use Rattle.writing.proofs.Good.{lists-small}
 use Rattle.sheet.specs.Reading.{sheetLength}
 use Rattle.sheet.specs.Asking.{rowsIn}
 use Rattle.sheet.specs.declared.Counts.{Counts}
-use Rattle.refusals.specs.Refusals.{refusedUnless, orElse}
+use Rattle.refusals.specs.Refusals.{refusedUnless}
 use Rattle.refusals.specs.declared.Verdict.{Verdict}
+use Rattle.refusals.proofs.Fine.{else-fine}
 use denote.Ref.{now}
 use lib.Dec.{leb}
-use Prim.Native.Nat.{ℕ}
 use mathlib.Core.Bool.{true}
 use mathlib.Core.Path.{_≡_, sym, ap, _∙_}
 use borrow.Author.Tests.{not-true, not-false}
@@ -34,10 +34,7 @@ third-fine c = sym ((c .before .before) .section-listed3 .ensures) ∙ c .enum-t
 
 -- the verdict on the room
 short-is : (c : tie.After-unless) → c .unless .result ≡ refusedUnless (leb (sheetLength (countsIn (given (c .before .before .before .before .before .before .before .before .before)))) ((c .before .before .before .before .before .before .before .before .before) .args .room)) 11 0
-short-is c =
-    c .unless .ensures
-    ∙ ap (λ (k : ℕ). refusedUnless (leb k ((c .before .before .before .before .before .before .before .before .before) .args .room)) 11 0)
-    ((c .before) .size .ensures ∙ ap sheetLength ((c .before .before) .counts-in .ensures))
+short-is c = rw (c .unless .ensures, (c .before) .size .ensures, (c .before .before) .counts-in .ensures)
 
 returns : tie.Need-returns
 unfolding writeVerdict
@@ -104,10 +101,11 @@ returns-5 c =
       first-fine (c .before .before .before .before .before .before .before .before),
       second-fine (c .before .before .before .before .before),
       third-fine (c .before .before),
+      c .or-else .ensures,
+      (c .before) .section-listed4 .ensures,
+      short-is (c .before .before .before .before .before .before .before .before .before .before .before),
+      else-fine,
     )
-    (c .or-else .ensures
-    ∙ ap (λ (v : Verdict). orElse v ((c .before .before .before .before .before .before .before .before .before .before .before) .unless .result)) ((c .before) .section-listed4 .ensures)
-    ∙ ap (orElse (sectionListed (given (c .before .before .before .before .before .before .before .before .before .before .before .before .before .before .before .before .before .before .before .before)) 4)) (short-is (c .before .before .before .before .before .before .before .before .before .before .before) ∙ or-last _))
 
 pub write-verdict-spec : {M : Type 1} → statement M
 write-verdict-spec =
