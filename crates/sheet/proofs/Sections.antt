@@ -15,7 +15,8 @@ use Rattle.rows.specs.Rows.{agentOf}
 use Rattle.sums.proofs.Tests.{and-left, and-right}
 use Rattle.rows.proofs.Stretch.{stretch-length, stretch-row}
 use Rattle.sheet.specs.Reading.{trailerStart, contractStart, sheetLength, lengthGood, countsOf, countsGood, distancesGood, layoutGood, kindAt, agentVerdict, boundaryVerdict, plantVerdict, contractVerdict, readVerdict, reading, readOf}
-use Rattle.sheet.specs.Asking.{rowsIn, rowsBefore, kindIn, rowGood, toldIn, rowVerdict, sectionVerdict, rowsVerdict, sectionOf, isSection, fieldsAt, askedRow, rowOf, rowIn}
+use Rattle.sheet.specs.Asking.{rowsIn, rowsBefore, sectionOf, isSection, fieldsAt, askedRow, rowOf, rowIn}
+use Rattle.sheet.specs.Sections.{kindIn, rowGood, toldIn, rowVerdict, sectionVerdict, rowsVerdict}
 use Rattle.sheet.specs.declared.Counts.{Counts}
 use Rattle.sheet.specs.declared.Reading.{Reading}
 use Rattle.sheet.specs.declared.RowRead.{RowRead}

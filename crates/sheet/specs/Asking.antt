@@ -1,20 +1,19 @@
 -- Document 01, 'The hour sheet' and refusal 12: a sheet's rows section by section, and what an accepted sheet is asked for.
 -- Assumes nothing.
 use Prim.Native.Nat.{ℕ, _+_, _*_}
-use mathlib.Core.Bool.{Bool, true, _&&_, cond}
+use mathlib.Core.Bool.{Bool, _&&_, cond}
 use mathlib.Core.List.{List, [], _∷_}
 use lib.ListN.{take, drop}
 use lib.Dec.{leb, ltb, eqb}
-use Rattle.refusals.specs.Refusals.{notThere, refusedUnless, firstOf, firstBad}
+use Rattle.refusals.specs.Refusals.{notThere, refusedUnless, firstOf}
 use Rattle.refusals.specs.declared.Verdict.{Verdict}
 use Rattle.rows.specs.Bytes.{wordsAt}
-use Rattle.rows.specs.Rows.{agentOf, boundaryOf, plantOf, contractOf, agentBlank, rowBlank, agentGood, boundaryGood, plantGood, contractGood}
-use Rattle.rows.specs.declared.Words.{Words}
+use Rattle.rows.specs.Rows.{agentOf, boundaryOf, plantOf, contractOf}
 use Rattle.rows.specs.declared.Agent.{Agent}
 use Rattle.rows.specs.declared.Boundary.{Boundary}
 use Rattle.rows.specs.declared.Plant.{Plant}
 use Rattle.rows.specs.declared.Contract.{Contract}
-use Rattle.sheet.specs.Reading.{boundaryStart, plantStart, contractStart, kindAt}
+use Rattle.sheet.specs.Reading.{boundaryStart, plantStart, contractStart}
 use Rattle.sheet.specs.declared.Counts.{Counts}
 use Rattle.sheet.specs.declared.Fields.{Fields}
 use Rattle.sheet.specs.declared.Reading.{Reading}
@@ -84,45 +83,6 @@ verdictIn (RowRead.Refused r) = Verdict.Refused r
 abbrev pub fieldsIn : RowRead → Fields
 fieldsIn (RowRead.Row f) = f
 fieldsIn (RowRead.Refused r) = noFields
-
--- ---- reading, section by section
-
--- the kind of agent a by the agents' section: a row past the last is all zeros
-abbrev pub kindIn : (agents : List ℕ) → ℕ → ℕ
-kindIn agents a = agentOf (wordsAt agents a) .kind
-
--- whether a row is good, by its numbers and the kinds of the agents
-abbrev pub agentRowGood : Words → Bool
-agentRowGood w = agentBlank w && agentGood (agentOf w)
-
-abbrev pub boundaryRowGood : (kind : ℕ → ℕ) → Words → Bool
-boundaryRowGood kind w = rowBlank w && boundaryGood (kind (boundaryOf w .agent)) (boundaryOf w)
-
-abbrev pub plantRowGood : (kind : ℕ → ℕ) → Words → Bool
-plantRowGood kind w = rowBlank w && plantGood (kind (plantOf w .agent)) (plantOf w)
-
-abbrev pub contractRowGood : (kind : ℕ → ℕ) → Words → Bool
-contractRowGood kind w = contractGood (kind (contractOf w .seller)) (kind (contractOf w .buyer)) (contractOf w)
-
-unfoldable pub rowGood : (kind : ℕ → ℕ) → ℕ → Words → Bool
-rowGood kind k w =
-    bySection k (agentRowGood w) (boundaryRowGood kind w) (plantRowGood kind w) (contractRowGood kind w) true
-
--- what row i of section k is told: sections 1 to 4 have refusals 3 to 6
-abbrev pub verdictOf : (kind : ℕ → ℕ) → (k : ℕ) → Words → (i : ℕ) → Verdict
-verdictOf kind k w i = refusedUnless (rowGood kind k w) (k + 2) i
-
-abbrev pub toldIn : (agents section : List ℕ) → (k i : ℕ) → Verdict
-toldIn agents section k i = verdictOf (kindIn agents) k (wordsAt section i) i
-
-unfoldable pub rowVerdict : List ℕ → Counts → ℕ → ℕ → Verdict
-rowVerdict s c k i = verdictOf (kindAt s c) k (wordsAt s (rowsBefore c k + i)) i
-
-unfoldable pub sectionVerdict : List ℕ → Counts → ℕ → Verdict
-sectionVerdict s c k = firstBad (rowVerdict s c k) 0 (rowsIn c k)
-
-unfoldable pub rowsVerdict : List ℕ → Counts → Verdict
-rowsVerdict s c = firstOf (sectionVerdict s c 1 ∷ sectionVerdict s c 2 ∷ sectionVerdict s c 3 ∷ sectionVerdict s c 4 ∷ [])
 
 -- ---- asking an accepted sheet with these counts: 12 with the number asked for, a bad section before a bad row
 abbrev pub askedSection : ℕ → Verdict

@@ -1,7 +1,6 @@
 -- Document 01, 'The hour sheet' and 'When the sheet is turned away': reading gives refusals 1 to 6. The first bad row ends it.
 -- Assumes nothing.
 use Prim.Native.Nat.{ℕ, _+_, _-_, _*_, _/_, _%_, _<_}
-use mathlib.Core.Path.{_≡_}
 use mathlib.Core.Bool.{Bool, _&&_, cond}
 use mathlib.Core.List.{List, [], _∷_}
 use lib.ListN.{length}
@@ -37,10 +36,6 @@ Addable c = trailerStart c < 4 * 4294967296
 
 abbrev pub Placeable : ℕ → Type 0
 Placeable n = n < 4294967296
-
--- what cutting the sections out of the bytes asks for
-abbrev pub Laid : List ℕ → Counts → Type 0
-Laid s c = (length s ≡ sheetLength c) × Placeable (trailerStart c)
 
 -- ---- refusal 1 is given exactly where this is false
 abbrev pub lengthGood : ℕ → Bool

@@ -2,8 +2,9 @@
 ghost use mathlib.Core.Path.{_≡_};
 ghost use Prim.Native.Nat.{_+_, _*_, _≤_, _<_};
 ghost use lib.ListN.{length};
-ghost use Rattle.sheet.specs.Reading.{trailerStart, Addable, Placeable, Laid, lengthGood, countsOf, countsGood, distancesGood, layoutGood, readOf};
-ghost use Rattle.sheet.specs.Asking.{rowsIn, rowsBefore, sectionOf, agentFields, boundaryFields, plantFields, contractFields, verdictIn, fieldsIn, kindIn, agentRowGood, boundaryRowGood, plantRowGood, contractRowGood, rowGood, toldIn, sectionVerdict, rowsVerdict};
+ghost use Rattle.sheet.specs.Reading.{trailerStart, Addable, Placeable, lengthGood, countsOf, countsGood, distancesGood, layoutGood, readOf};
+ghost use Rattle.sheet.specs.Asking.{rowsIn, rowsBefore, sectionOf, agentFields, boundaryFields, plantFields, contractFields, verdictIn, fieldsIn};
+ghost use Rattle.sheet.specs.Sections.{kindIn, agentRowGood, boundaryRowGood, plantRowGood, contractRowGood, rowGood, toldIn, sectionVerdict, rowsVerdict, Laid};
 use refusals::Refusal;
 use refusals::Verdict;
 use rows::Agent;

@@ -1,5 +1,5 @@
 use borrow.Author.Tests.{ne-eqb}
-use Rattle.sheet.specs.Asking.{rowGood}
+use Rattle.sheet.specs.Sections.{rowGood}
 use borrow.Author.Needs.{needs}
 use Rattle.sheet.proofs.row_good.Statement.{statement}
 use Rattle.sheet.proofs.row_good.Tie as tie

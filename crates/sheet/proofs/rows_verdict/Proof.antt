@@ -1,6 +1,6 @@
 use mathlib.Core.Path.{sym}
 use Rattle.refusals.proofs.Fine.{else-fine}
-use Rattle.sheet.specs.Asking.{rowsVerdict}
+use Rattle.sheet.specs.Sections.{rowsVerdict}
 use borrow.Author.Needs.{needs}
 use Rattle.sheet.proofs.rows_verdict.Statement.{statement}
 use Rattle.sheet.proofs.rows_verdict.Tie as tie

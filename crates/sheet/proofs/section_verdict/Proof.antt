@@ -6,7 +6,7 @@ use lib.ListN.{length}
 use borrow.Author.Needs.{needs}
 use Rattle.refusals.specs.Refusals.{firstBad}
 use Rattle.refusals.proofs.FirstBad.{none-bad, good-row, bad-row, from-start}
-use Rattle.sheet.specs.Asking.{toldIn, sectionVerdict}
+use Rattle.sheet.specs.Sections.{toldIn, sectionVerdict}
 use Rattle.sheet.proofs.Sections.{section-within, part-count, section-told}
 use Rattle.sheet.proofs.section_verdict.Statement.{statement}
 use Rattle.sheet.proofs.section_verdict.Tie as tie
