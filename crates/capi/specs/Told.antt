@@ -21,7 +21,7 @@ use Rattle.printing.specs.Page.{printed}
 use Rattle.printing.specs.declared.Printed.{Printed}
 use Rattle.page.specs.Page.{pageText}
 use Rattle.writing.specs.Numbers.{Numbers, countsIn}
-use Rattle.writing.specs.Words.{rowOf}
+use Rattle.writing.specs.Words.{sheetRow}
 use Rattle.writing.specs.Judged.{writeVerdict, writing}
 use Rattle.writing.specs.declared.Writing.{Writing}
 
@@ -50,7 +50,7 @@ writeAnswer (Writing.Refused r) = r .number ∷ r .place ∷ 0 ∷ []
 
 pub record WriteTold (n : Numbers) (bytes list : List ℕ) (r : ℕ) (bytes′ list′ : List ℕ) : Type 0 where
   pub told : Told 3 (writeAnswer (writing (writeVerdict n (length bytes)) (sheetLength (countsIn n)))) list r list′
-  pub sheet : Filled 0 bytes bytes′ (cond (leb 3 (length list)) (cells (writeVerdict n (length bytes)) (sheetLength (countsIn n))) 0) (byteOf (rowOf n))
+  pub sheet : Filled 0 bytes bytes′ (cond (leb 3 (length list)) (cells (writeVerdict n (length bytes)) (sheetLength (countsIn n))) 0) (byteOf (sheetRow n))
 
 -- settling: number, place, price, demand and losses; and the four lent lists as `settle` leaves them
 abbrev pub summaryAnswer : Summary → List ℕ

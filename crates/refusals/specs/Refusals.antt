@@ -84,7 +84,3 @@ cells (Verdict.Refused r) n = 0
 abbrev pub numberOf : Verdict → ℕ
 numberOf Verdict.Fine = 0
 numberOf (Verdict.Refused r) = r .number
-
-abbrev pub placeOf : Verdict → ℕ
-placeOf Verdict.Fine = 0
-placeOf (Verdict.Refused r) = r .place

@@ -7,7 +7,7 @@ use mathlib.Core.Logic.{_⊎_, inl, inr, ⊎-elim}
 use lib.Dec.{leb, eqb}
 use borrow.Author.Tests.{leb-true, eqb-true, eq-eqb}
 use Rattle.sums.proofs.Tests.{all-true, or-cases, or-else}
-use Rattle.rows.specs.Limits.{mostEnergy, mostPrice, mostFactor}
+use Rattle.rows.specs.Limits.{mostFactor, mostReading, mostOffer, mostAvailable, mostPrice, mostQuantity}
 use Rattle.rows.specs.Rows.{isAgent, agentBlank, rowBlank, boundaryGood, plantGood, contractGood}
 use Rattle.rows.specs.declared.Words.{Words}
 use Rattle.rows.specs.declared.Boundary.{Boundary}
@@ -36,13 +36,13 @@ row-blank w e = eqb-true _ _ e
 pub record BoundaryFits (kind : ℕ) (b : Boundary) : Type 0 where
   pub known : isAgent kind ≡ true
   pub factor : b .factor ≤ mostFactor
-  pub import : b .import ≤ mostEnergy
-  pub export : b .export ≤ mostEnergy
+  pub import : b .import ≤ mostReading
+  pub export : b .export ≤ mostReading
   pub unreferred : kind ≡ 2 → b .factor ≡ 0
 
 pub boundary-fits : (kind : ℕ) (b : Boundary) → boundaryGood kind b ≡ true → BoundaryFits kind b
 boundary-fits kind b e =
-    let all = all-true (isAgent kind) (leb (b .factor) mostFactor ∷ leb (b .import) mostEnergy ∷ leb (b .export) mostEnergy ∷ (not (eqb kind 2) || eqb (b .factor) 0) ∷ []) e in
+    let all = all-true (isAgent kind) (leb (b .factor) mostFactor ∷ leb (b .import) mostReading ∷ leb (b .export) mostReading ∷ (not (eqb kind 2) || eqb (b .factor) 0) ∷ []) e in
     record {
       known = all .0;
       factor = leb-true _ _ (all .1 .0);
@@ -54,12 +54,12 @@ boundary-fits kind b e =
 pub record PlantFits (kind : ℕ) (p : Plant) : Type 0 where
   pub generator : kind ≡ 2
   pub flag : p .inflexible ≤ 1
-  pub price : p .price ≤ mostPrice
-  pub availability : p .availability ≤ mostEnergy
+  pub price : p .price ≤ mostOffer
+  pub availability : p .availability ≤ mostAvailable
 
 pub plant-fits : (kind : ℕ) (p : Plant) → plantGood kind p ≡ true → PlantFits kind p
 plant-fits kind p e =
-    let all = all-true (eqb kind 2) (leb (p .inflexible) 1 ∷ leb (p .price) mostPrice ∷ leb (p .availability) mostEnergy ∷ []) e in
+    let all = all-true (eqb kind 2) (leb (p .inflexible) 1 ∷ leb (p .price) mostOffer ∷ leb (p .availability) mostAvailable ∷ []) e in
     record {
       generator = eqb-true _ _ (all .0);
       flag = leb-true _ _ (all .1 .0);
@@ -73,11 +73,11 @@ pub record ContractFits (seller buyer : ℕ) (c : Contract) : Type 0 where
   pub least : 1 ≤ c .kind
   pub most : c .kind ≤ 3
   pub price : c .price ≤ mostPrice
-  pub quantity : c .quantity ≤ mostEnergy
+  pub quantity : c .quantity ≤ mostQuantity
 
 pub contract-fits : (seller buyer : ℕ) (c : Contract) → contractGood seller buyer c ≡ true → ContractFits seller buyer c
 contract-fits seller buyer c e =
-    let all = all-true (eqb seller 2) (eqb buyer 1 ∷ leb 1 (c .kind) ∷ leb (c .kind) 3 ∷ leb (c .price) mostPrice ∷ leb (c .quantity) mostEnergy ∷ []) e in
+    let all = all-true (eqb seller 2) (eqb buyer 1 ∷ leb 1 (c .kind) ∷ leb (c .kind) 3 ∷ leb (c .price) mostPrice ∷ leb (c .quantity) mostQuantity ∷ []) e in
     record {
       generator = eqb-true _ _ (all .0);
       retailer = eqb-true _ _ (all .1 .0);

@@ -1,5 +1,5 @@
 -- Document 01, 'The hour sheet': the limits of each kind of row. In the code they are associated constants of the row types;
--- the proofs of the row tests tie the two, so that neither can change alone. Assumes nothing.
+-- the row tests and `few` tie the two, so that neither can change alone. Assumes nothing.
 use Prim.Native.Nat.{ℕ}
 
 -- how many rows a section may have
@@ -15,14 +15,26 @@ mostPlants = 64
 abbrev pub mostContracts : ℕ
 mostContracts = 256
 
--- readings, availability and quantity, in kWh
-abbrev pub mostEnergy : ℕ
-mostEnergy = 4000000
+-- a boundary: the factor in ten-thousandths, import and export in kWh
+abbrev pub mostFactor : ℕ
+mostFactor = 5000
 
--- in centavos a kWh
+abbrev pub mostReading : ℕ
+mostReading = 4000000
+
+-- a plant: the offer price in centavos a kWh, the availability in kWh
+abbrev pub mostOffer : ℕ
+mostOffer = 1000000
+
+abbrev pub mostAvailable : ℕ
+mostAvailable = 4000000
+
+-- a contract: the price in centavos a kWh, the quantity in kWh
 abbrev pub mostPrice : ℕ
 mostPrice = 1000000
 
--- in ten-thousandths
-abbrev pub mostFactor : ℕ
-mostFactor = 5000
+abbrev pub mostQuantity : ℕ
+mostQuantity = 4000000
+
+abbrev pub mostEnergy : ℕ
+mostEnergy = 4000000

@@ -2,7 +2,7 @@
 use Prim.Native.Nat.{ℕ, _/_, _%_}
 use mathlib.Core.Bool.{Bool, _&&_, _||_, not}
 use lib.Dec.{leb, eqb}
-use Rattle.rows.specs.Limits.{mostEnergy, mostPrice, mostFactor}
+use Rattle.rows.specs.Limits.{mostAgents, mostBoundaries, mostPlants, mostContracts, mostFactor, mostReading, mostOffer, mostAvailable, mostPrice, mostQuantity}
 use Rattle.rows.specs.declared.Words.{Words}
 use Rattle.rows.specs.declared.Agent.{Agent}
 use Rattle.rows.specs.declared.Boundary.{Boundary}
@@ -47,6 +47,11 @@ isGenerator kind = eqb kind 2
 abbrev pub isAgent : ℕ → Bool
 isAgent kind = isRetailer kind || isGenerator kind
 
+-- ---- no section has more rows than its limit
+abbrev pub fewRows : (agents boundaries plants contracts : ℕ) → Bool
+fewRows agents boundaries plants contracts =
+    leb agents mostAgents && leb boundaries mostBoundaries && leb plants mostPlants && leb contracts mostContracts
+
 -- ---- what makes a row good. A row that names an agent is judged with that agent's kind, 0 where there is no such agent
 abbrev pub agentGood : Agent → Bool
 agentGood a = isAgent (a .kind)
@@ -54,16 +59,16 @@ agentGood a = isAgent (a .kind)
 -- the agent is there, factor and readings are within their limits, and a generator has no factor
 abbrev pub boundaryGood : (kind : ℕ) → Boundary → Bool
 boundaryGood kind b =
-    isAgent kind && leb (b .factor) mostFactor && leb (b .import) mostEnergy && leb (b .export) mostEnergy
+    isAgent kind && leb (b .factor) mostFactor && leb (b .import) mostReading && leb (b .export) mostReading
     && (not (isGenerator kind) || eqb (b .factor) 0)
 
 -- the agent is a generator, the flag is 0 or 1, price and availability are within their limits
 abbrev pub plantGood : (kind : ℕ) → Plant → Bool
 plantGood kind p =
-    isGenerator kind && leb (p .inflexible) 1 && leb (p .price) mostPrice && leb (p .availability) mostEnergy
+    isGenerator kind && leb (p .inflexible) 1 && leb (p .price) mostOffer && leb (p .availability) mostAvailable
 
 -- the seller is a generator, the buyer a retailer; kind, price and quantity are within their ranges
 abbrev pub contractGood : (seller buyer : ℕ) → Contract → Bool
 contractGood seller buyer c =
     isGenerator seller && isRetailer buyer && leb 1 (c .kind) && leb (c .kind) 3 && leb (c .price) mostPrice
-    && leb (c .quantity) mostEnergy
+    && leb (c .quantity) mostQuantity

@@ -3,7 +3,7 @@ ghost use mathlib.Core.Path.{_≡_};
 ghost use Prim.Native.Nat.{_+_, _≤_, _<_};
 ghost use lib.ListN.{length};
 ghost use Rattle.rows.specs.Bytes.{u32At, wordsAt};
-ghost use Rattle.rows.specs.Rows.{agentOf, boundaryOf, plantOf, contractOf, agentBlank, rowBlank, agentGood, boundaryGood, plantGood, contractGood};
+ghost use Rattle.rows.specs.Rows.{agentOf, boundaryOf, plantOf, contractOf, agentBlank, rowBlank, fewRows, agentGood, boundaryGood, plantGood, contractGood};
 
 // A row's sixteen bytes, as four 32-bit numbers.
 pub struct Words {
@@ -18,7 +18,13 @@ pub struct Agent {
 }
 
 impl Agent {
-    pub const MOST: usize = 64;
+    // The number of their section, and how many rows it may have.
+    pub const SECTION: u32 = 1;
+
+    pub const MOST: usize = 64; // agents
+
+    // The figures of an agent's line: loss share, own energy, own import, contracted, bought, sold.
+    pub const CELLS: usize = 6;
 
     pub const RETAILER: u32 = 1;
 
@@ -33,7 +39,10 @@ pub struct Boundary {
 }
 
 impl Boundary {
-    pub const MOST: usize = 256;
+    // The number of their section, and how many rows it may have.
+    pub const SECTION: u32 = 2;
+
+    pub const MOST: usize = 256; // boundaries
 
     pub const FACTOR: u32 = 5000;
 
@@ -48,12 +57,15 @@ pub struct Plant {
 }
 
 impl Plant {
-    pub const MOST: usize = 64;
+    // The number of their section, and how many rows it may have.
+    pub const SECTION: u32 = 3;
+
+    pub const MOST: usize = 64; // plants
 
     // The highest flag: 1 says that the plant is inflexible.
     pub const INFLEXIBLE: u32 = 1;
 
-    pub const PRICE: u32 = 1000000;
+    pub const OFFER: u32 = 1000000;
 
     pub const AVAILABILITY: u32 = 4000000;
 }
@@ -67,7 +79,10 @@ pub struct Contract {
 }
 
 impl Contract {
-    pub const MOST: usize = 256;
+    // The number of their section, and how many rows it may have.
+    pub const SECTION: u32 = 4;
+
+    pub const MOST: usize = 256; // contracts
 
     pub const FIXED: u32 = 1;
 
@@ -170,6 +185,16 @@ pub fn row_blank(w: Words) -> bool
     w.second == 0
 }
 
+// No section has more rows than its limit.
+pub fn few(agents: usize, boundaries: usize, plants: usize, contracts: usize) -> bool
+    ensures { λ r. ⌜ r ≡ fewRows agents boundaries plants contracts ⌝ }
+{
+    (agents <= Agent::MOST)
+        & (boundaries <= Boundary::MOST)
+        & (plants <= Plant::MOST)
+        & (contracts <= Contract::MOST)
+}
+
 // What makes a row good: one unbranched test each. A row that names an agent is judged with that agent's kind, 0 for none.
 pub fn agent_good(a: Agent) -> bool
     ensures { λ r. ⌜ r ≡ agentGood a ⌝ }
@@ -192,7 +217,7 @@ pub fn plant_good(kind: u32, p: Plant) -> bool
 {
     (kind == Agent::GENERATOR)
         & (p.inflexible <= Plant::INFLEXIBLE)
-        & (p.price <= Plant::PRICE)
+        & (p.price <= Plant::OFFER)
         & (p.availability <= Plant::AVAILABILITY)
 }
 

@@ -16,7 +16,7 @@ use Rattle.rows.specs.Bytes.{wordsAt}
 use Rattle.rows.specs.Rows.{isAgent, agentBlank, rowBlank, agentGood, boundaryGood, plantGood, contractGood}
 use Rattle.sums.proofs.Tests.{and-left, and-right}
 use Rattle.rows.proofs.Good.{agent-kind, AgentBlank, agent-blank, row-blank, BoundaryFits, boundary-fits, PlantFits, plant-fits, ContractFits, contract-fits}
-use Rattle.sheet.specs.Reading.{boundaryStart, plantStart, sheetLength, lengthGood, countsOf, countsGood, distancesGood, layoutGood, kindAt, agentVerdict, boundaryVerdict, plantVerdict, contractVerdict, checks, readVerdict, reading, readOf}
+use Rattle.sheet.specs.Reading.{boundaryStart, plantStart, sheetLength, longest, lengthGood, countsOf, countsGood, distancesGood, layoutGood, kindAt, agentVerdict, boundaryVerdict, plantVerdict, contractVerdict, checks, readVerdict, reading, readOf}
 use Rattle.sheet.specs.Asking.{agentAt, boundaryAt, plantAt, contractAt}
 use Rattle.sheet.specs.declared.Counts.{Counts}
 use Rattle.sheet.specs.declared.Reading.{Reading}
@@ -67,7 +67,7 @@ layout-length : (n : ℕ) (c : Counts) → countsGood c ≡ true → n ≡ sheet
 layout-length n c e h =
     let f = good-few c e in
     let m : n % 16 ≡ 0 = omega arith in
-    rw (le-leb 32 n (omega arith), le-leb n 10272 (omega arith), eq-eqb (n % 16) 0 m)
+    rw (le-leb 32 n (omega arith), le-leb n longest (omega arith), eq-eqb (n % 16) 0 m)
 
 -- ---- from an accepted sheet
 fine-reading : (v : Verdict) (k c : Counts) → reading v k ≡ Reading.Accepted c → (v ≡ Verdict.Fine) × (k ≡ c)

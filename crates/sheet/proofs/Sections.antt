@@ -14,7 +14,7 @@ use Rattle.rows.specs.Bytes.{wordsOf, wordsAt}
 use Rattle.rows.specs.Rows.{agentOf}
 use Rattle.sums.proofs.Tests.{and-left, and-right}
 use Rattle.rows.proofs.Stretch.{stretch-length, stretch-row}
-use Rattle.sheet.specs.Reading.{trailerStart, contractStart, sheetLength, lengthGood, countsOf, countsGood, distancesGood, layoutGood, kindAt, agentVerdict, boundaryVerdict, plantVerdict, contractVerdict, readVerdict, reading, readOf}
+use Rattle.sheet.specs.Reading.{boundaryStart, plantStart, contractStart, trailerStart, sheetLength, longest, lengthGood, countsOf, countsGood, distancesGood, layoutGood, kindAt, agentVerdict, boundaryVerdict, plantVerdict, contractVerdict, readVerdict, reading, readOf}
 use Rattle.sheet.specs.Asking.{rowsIn, rowsBefore, sectionOf, isSection, fieldsAt, askedRow, rowOf, rowIn}
 use Rattle.sheet.specs.Sections.{kindIn, rowGood, toldIn, rowVerdict, sectionVerdict, rowsVerdict}
 use Rattle.sheet.specs.declared.Counts.{Counts}
@@ -39,7 +39,7 @@ section-within c k = go (eqb k 1) (eqb k 2) (eqb k 3) (eqb k 4)
 
 -- ---- reading, step by step
 pub has-trailer : (n : ℕ) → lengthGood n ≡ true → 32 ≤ n
-has-trailer n e = leb-true _ _ (and-left (leb 32 n) (leb n 10272) (and-left (leb 32 n && leb n 10272) (eqb (n % 16) 0) e))
+has-trailer n e = leb-true _ _ (and-left (leb 32 n) (leb n longest) (and-left (leb 32 n && leb n longest) (eqb (n % 16) 0) e))
 
 module _ (s : List ℕ) where
   -- the agents' rows are the sheet's first
@@ -128,16 +128,31 @@ module _ (s : List ℕ) (c : Counts) (e : length s ≡ sheetLength c) where
   unfolding sectionVerdict
   section-told k = rw (part-count k) (first-same _ _ (rowsIn c k) 0 (λ i h. row-told k i (omega arith)))
 
--- section 4 is the contracts' bytes
-pub section-contracts : (s : List ℕ) (c : Counts) → sectionOf s c 4 ≡ take (16 * c .contracts) (drop (16 * contractStart c) s)
-unfolding sectionOf rowsIn rowsBefore
-section-contracts s c = refl
-
 -- ---- of an accepted sheet
 module _ (s : List ℕ) (c : Counts) (e : readOf s ≡ Reading.Accepted c) where
   -- a section has all the bytes of its rows
   pub section-length : (k : ℕ) → length (sectionOf s c k) ≡ 16 * rowsIn c k
   section-length = part-length s c (accepted-length s c e)
+
+  -- the rows of each section are the sheet's, from where it starts
+  section-row : (k i : ℕ) → i < rowsIn c k → wordsAt (sectionOf s c k) i ≡ wordsAt s (rowsBefore c k + i)
+  section-row = part-row s c (accepted-length s c e)
+
+  pub agent-row : (i : ℕ) → i < c .agents → wordsAt (sectionOf s c 1) i ≡ wordsAt s i
+  unfolding rowsIn rowsBefore
+  agent-row i h = let z : 0 + i ≡ i = omega arith in section-row 1 i h ∙ ap (wordsAt s) z
+
+  pub boundary-row : (i : ℕ) → i < c .boundaries → wordsAt (sectionOf s c 2) i ≡ wordsAt s (boundaryStart c + i)
+  unfolding rowsIn rowsBefore
+  boundary-row = section-row 2
+
+  pub plant-row : (i : ℕ) → i < c .plants → wordsAt (sectionOf s c 3) i ≡ wordsAt s (plantStart c + i)
+  unfolding rowsIn rowsBefore
+  plant-row = section-row 3
+
+  pub contract-row : (i : ℕ) → i < c .contracts → wordsAt (sectionOf s c 4) i ≡ wordsAt s (contractStart c + i)
+  unfolding rowsIn rowsBefore
+  contract-row = section-row 4
 
   -- a row that is there is handed back
   pub row-there : (k i : ℕ) → isSection k ≡ true → i < rowsIn c k → rowIn (readOf s) s k i ≡ RowRead.Row (fieldsAt s c k i)

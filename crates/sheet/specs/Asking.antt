@@ -71,7 +71,7 @@ fieldsAt s c k i =
     bySection k (agentFields (agentAt s c i)) (boundaryFields (boundaryAt s c i)) (plantFields (plantAt s c i))
     (contractFields (contractAt s c i)) noFields
 
--- ---- what reading a row answers, and asking for one: a refused row is all zeros
+-- ---- what asking for a row answers: its numbers, all zeros where it is refused
 abbrev pub rowRead : Verdict → Fields → RowRead
 rowRead Verdict.Fine f = RowRead.Row f
 rowRead (Verdict.Refused r) f = RowRead.Refused r

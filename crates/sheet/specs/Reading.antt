@@ -1,6 +1,6 @@
 -- Document 01, 'The hour sheet' and 'When the sheet is turned away': reading gives refusals 1 to 6. The first bad row ends it.
 -- Assumes nothing.
-use Prim.Native.Nat.{ℕ, _+_, _-_, _*_, _/_, _%_, _<_}
+use Prim.Native.Nat.{ℕ, _+_, _-_, _*_, _/_, _%_}
 use mathlib.Core.Bool.{Bool, _&&_, cond}
 use mathlib.Core.List.{List, [], _∷_}
 use lib.ListN.{length}
@@ -9,7 +9,7 @@ use Rattle.refusals.specs.Refusals.{badLength, badLayout, badAgent, badBoundary
 use Rattle.refusals.specs.declared.Verdict.{Verdict}
 use Rattle.rows.specs.Limits.{mostAgents, mostBoundaries, mostPlants, mostContracts}
 use Rattle.rows.specs.Bytes.{wordsAt}
-use Rattle.rows.specs.Rows.{agentOf, boundaryOf, plantOf, contractOf, agentBlank, rowBlank, agentGood, boundaryGood, plantGood, contractGood}
+use Rattle.rows.specs.Rows.{agentOf, boundaryOf, plantOf, contractOf, agentBlank, rowBlank, fewRows, agentGood, boundaryGood, plantGood, contractGood}
 use Rattle.sheet.specs.declared.Counts.{Counts}
 use Rattle.sheet.specs.declared.Reading.{Reading}
 
@@ -30,16 +30,12 @@ trailerStart c = c .agents + c .boundaries + c .plants + c .contracts
 abbrev pub sheetLength : Counts → ℕ
 sheetLength c = 16 * trailerStart c + 32
 
--- what the code's sums ask for: four 32-bit counts can be added up, and a row's number can stand in a refusal
-abbrev pub Addable : Counts → Type 0
-Addable c = trailerStart c < 4 * 4294967296
-
-abbrev pub Placeable : ℕ → Type 0
-Placeable n = n < 4294967296
+abbrev pub longest : ℕ
+longest = 16 * (mostAgents + mostBoundaries + mostPlants + mostContracts) + 32
 
 -- ---- refusal 1 is given exactly where this is false
 abbrev pub lengthGood : ℕ → Bool
-lengthGood n = leb 32 n && leb n (16 * (mostAgents + mostBoundaries + mostPlants + mostContracts) + 32) && eqb (n % 16) 0
+lengthGood n = leb 32 n && leb n longest && eqb (n % 16) 0
 
 -- ---- the trailer: four pairs of numbers, a distance and a count
 unfoldable pub countsOf : List ℕ → Counts
@@ -53,9 +49,7 @@ countsOf s =
     }
 
 abbrev pub countsGood : Counts → Bool
-countsGood c =
-    leb (c .agents) mostAgents && leb (c .boundaries) mostBoundaries && leb (c .plants) mostPlants
-    && leb (c .contracts) mostContracts
+countsGood c = fewRows (c .agents) (c .boundaries) (c .plants) (c .contracts)
 
 -- each distance is the one back from the trailer's first byte to the section's first byte
 unfoldable pub distancesGood : List ℕ → Counts → Bool

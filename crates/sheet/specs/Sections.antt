@@ -1,6 +1,6 @@
 -- How the code goes over the rows, one section after the other: the rows and tests are those of the page Reading, and the law
 -- `read-rows` says that the verdict is. Assumes nothing.
-use Prim.Native.Nat.{ℕ, _+_}
+use Prim.Native.Nat.{ℕ, _+_, _*_, _<_}
 use mathlib.Core.Bool.{Bool, true, _&&_}
 use mathlib.Core.List.{List, [], _∷_}
 use mathlib.Core.Path.{_≡_}
@@ -10,9 +10,16 @@ use Rattle.refusals.specs.declared.Verdict.{Verdict}
 use Rattle.rows.specs.Bytes.{wordsAt}
 use Rattle.rows.specs.Rows.{agentOf, boundaryOf, plantOf, contractOf, agentBlank, rowBlank, agentGood, boundaryGood, plantGood, contractGood}
 use Rattle.rows.specs.declared.Words.{Words}
-use Rattle.sheet.specs.Reading.{trailerStart, sheetLength, Placeable, kindAt}
+use Rattle.sheet.specs.Reading.{trailerStart, sheetLength, kindAt}
 use Rattle.sheet.specs.Asking.{bySection, rowsIn, rowsBefore}
 use Rattle.sheet.specs.declared.Counts.{Counts}
+
+-- what the code's sums ask for: four 32-bit counts can be added up, and a row's number can stand in a refusal
+abbrev pub Addable : Counts → Type 0
+Addable c = trailerStart c < 4 * 4294967296
+
+abbrev pub Placeable : ℕ → Type 0
+Placeable n = n < 4294967296
 
 -- what cutting the sections out of the bytes asks for
 abbrev pub Laid : List ℕ → Counts → Type 0

@@ -1,8 +1,9 @@
 // Asking a sheet for a section, or for any row of any section: refusal 12 where it is not there.
 ghost use mathlib.Core.Path.{_≡_};
 ghost use Prim.Native.Nat.{_<_};
-ghost use Rattle.sheet.specs.Reading.{trailerStart, Placeable, readOf};
+ghost use Rattle.sheet.specs.Reading.{trailerStart, readOf};
 ghost use Rattle.sheet.specs.Asking.{fieldsAt, askedSection, askedRow, rowOf, sectionOf, rowIn, sectionIn, sectionAnswer};
+ghost use Rattle.sheet.specs.Sections.{Placeable};
 ghost use Rattle.sheet.specs.declared.Reading.{Reading};
 use crate::Counts;
 use crate::Fields;
@@ -79,8 +80,8 @@ pub(crate) fn row_of(s: &[u8], c: Counts, k: u32, i: u32) -> RowRead
     RowRead::Refused(why)
 }
 
-// Section k of an accepted sheet.
-pub(crate) fn section_of(s: &[u8], c: Counts, k: u32) -> &[u8]
+// Section k of an accepted sheet: whoever has the bytes and the counts that `read` gave need not know where a section stands.
+pub fn section_of(s: &[u8], c: Counts, k: u32) -> &[u8]
     requires { ⌜ readOf (now s) ≡ Reading.Accepted c ⌝ }
     ensures { λ r. ⌜ now r ≡ sectionOf (now (s .entry)) c k ⌝ }
 {

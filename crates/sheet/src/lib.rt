@@ -2,9 +2,9 @@
 ghost use mathlib.Core.Path.{_≡_};
 ghost use Prim.Native.Nat.{_+_, _*_, _≤_, _<_};
 ghost use lib.ListN.{length};
-ghost use Rattle.sheet.specs.Reading.{trailerStart, Addable, Placeable, lengthGood, countsOf, countsGood, distancesGood, layoutGood, readOf};
+ghost use Rattle.sheet.specs.Reading.{trailerStart, lengthGood, countsOf, countsGood, distancesGood, layoutGood, readOf};
 ghost use Rattle.sheet.specs.Asking.{rowsIn, rowsBefore, sectionOf, agentFields, boundaryFields, plantFields, contractFields, verdictIn, fieldsIn};
-ghost use Rattle.sheet.specs.Sections.{kindIn, agentRowGood, boundaryRowGood, plantRowGood, contractRowGood, rowGood, toldIn, sectionVerdict, rowsVerdict, Laid};
+ghost use Rattle.sheet.specs.Sections.{Addable, Placeable, kindIn, agentRowGood, boundaryRowGood, plantRowGood, contractRowGood, rowGood, toldIn, sectionVerdict, rowsVerdict, Laid};
 use refusals::Refusal;
 use refusals::Verdict;
 use rows::Agent;
@@ -24,6 +24,12 @@ pub struct Counts {
     pub contracts: usize,
 }
 
+impl Counts {
+    // How long a sheet with every row that it may have is, in bytes.
+    pub const LONGEST: usize = 16 * (Agent::MOST + Boundary::MOST + Plant::MOST + Contract::MOST)
+        + 32;
+}
+
 // What reading a sheet answers.
 pub enum Reading {
     Accepted(Counts),
@@ -39,7 +45,7 @@ pub struct Fields {
     pub fifth: u32,
 }
 
-// What reading a row answers, and asking for one.
+// What asking for a row answers.
 pub enum RowRead {
     Row(Fields),
     Refused(Refusal),
@@ -49,9 +55,7 @@ pub enum RowRead {
 fn length_good(n: usize) -> bool
     ensures { λ r. ⌜ r ≡ lengthGood n ⌝ }
 {
-    (32 <= n)
-        & (n <= 16 * (Agent::MOST + Boundary::MOST + Plant::MOST + Contract::MOST) + 32)
-        & (n % 16 == 0)
+    (32 <= n) & (n <= Counts::LONGEST) & (n % 16 == 0)
 }
 
 // A count of the trailer: up to 2^32, so that no sum of counts wraps.
@@ -79,10 +83,7 @@ fn counts_of(s: &[u8]) -> Counts
 fn counts_good(c: Counts) -> bool
     ensures { λ r. ⌜ r ≡ countsGood c ⌝ }
 {
-    (c.agents <= Agent::MOST)
-        & (c.boundaries <= Boundary::MOST)
-        & (c.plants <= Plant::MOST)
-        & (c.contracts <= Contract::MOST)
+    rows::few(c.agents, c.boundaries, c.plants, c.contracts)
 }
 
 // Each distance is the one back from the trailer to the section's first byte.
@@ -295,7 +296,7 @@ fn section_verdict(s: &[u8], c: Counts, k: u32) -> Verdict
     requires { ⌜ Laid (now s) c × (k ≤ 4) ⌝ }
     ensures { λ r. ⌜ r ≡ sectionVerdict (now (s .entry)) c k ⌝ }
 {
-    let agents = part_of(s, c, 1);
+    let agents = part_of(s, c, Agent::SECTION);
     let section = part_of(s, c, k);
     let n = section.len() / 16;
     for i in 0..n {
@@ -312,19 +313,19 @@ fn rows_verdict(s: &[u8], c: Counts) -> Verdict
     requires { ⌜ Laid (now s) c ⌝ }
     ensures { λ r. ⌜ r ≡ rowsVerdict (now (s .entry)) c ⌝ }
 {
-    let a = section_verdict(s, c, 1);
+    let a = section_verdict(s, c, Agent::SECTION);
     let Verdict::Fine = a else {
         return a;
     };
-    let b = section_verdict(s, c, 2);
+    let b = section_verdict(s, c, Boundary::SECTION);
     let Verdict::Fine = b else {
         return b;
     };
-    let p = section_verdict(s, c, 3);
+    let p = section_verdict(s, c, Plant::SECTION);
     let Verdict::Fine = p else {
         return p;
     };
-    section_verdict(s, c, 4)
+    section_verdict(s, c, Contract::SECTION)
 }
 
 pub fn read(s: &[u8]) -> Reading

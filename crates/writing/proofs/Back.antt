@@ -17,7 +17,7 @@ use Rattle.sheet.specs.Reading.{boundaryStart, plantStart, contractStart, trail
 use Rattle.sheet.specs.declared.Counts.{Counts}
 use Rattle.sheet.proofs.Accepted.{Whole}
 use Rattle.writing.specs.Numbers.{Numbers, countsIn, numbersOf}
-use Rattle.writing.specs.Words.{agentWords, boundaryWords, plantWords, contractWords, trailerWords, rowOf, sheetOf}
+use Rattle.writing.specs.Words.{agentWords, boundaryWords, plantWords, contractWords, trailerWords, sheetRow, sheetOf}
 use Rattle.writing.proofs.Rows.{agent-back, boundary-back, plant-back, contract-back}
 use Rattle.writing.proofs.Good.{Good, rows-good}
 use Rattle.writing.proofs.Same.{Same, numbers-same, same-counts, same-boundary, same-plant, same-contract}
@@ -102,47 +102,47 @@ module _ (s : List ℕ) (c : Counts) (w : Whole s c) where
     lies : Laid n c
     lies = subst (λ (k : Counts). Laid n k) back-counts (laid n)
 
-    agent-row : (i : ℕ) → i < c .agents → rowOf n i ≡ wordsAt s i
+    agent-row : (i : ℕ) → i < c .agents → sheetRow n i ≡ wordsAt s i
     agent-row i h =
         lies .agent i h ∙ ap agentWords (sym (same .agent i h))
         ∙ agent-back (wordsAt s i) (agent-blank (wordsAt s i) (w .agentBlanks i h))
 
-    boundary-row : (i : ℕ) → i < c .boundaries → rowOf n (boundaryStart c + i) ≡ wordsAt s (boundaryStart c + i)
+    boundary-row : (i : ℕ) → i < c .boundaries → sheetRow n (boundaryStart c + i) ≡ wordsAt s (boundaryStart c + i)
     boundary-row i h =
         let u = wordsAt s (boundaryStart c + i) in
         lies .boundary i h ∙ ap boundaryWords (sym (same .boundary i h))
         ∙ boundary-back u (row-narrow s by _ .first) (row-blank u (w .boundaryBlanks i h))
 
-    plant-row : (i : ℕ) → i < c .plants → rowOf n (plantStart c + i) ≡ wordsAt s (plantStart c + i)
+    plant-row : (i : ℕ) → i < c .plants → sheetRow n (plantStart c + i) ≡ wordsAt s (plantStart c + i)
     plant-row i h =
         let u = wordsAt s (plantStart c + i) in
         lies .plant i h ∙ ap plantWords (sym (same .plant i h))
         ∙ plant-back u (row-narrow s by _ .first) (row-blank u (w .plantBlanks i h))
 
-    contract-row : (i : ℕ) → i < c .contracts → rowOf n (contractStart c + i) ≡ wordsAt s (contractStart c + i)
+    contract-row : (i : ℕ) → i < c .contracts → sheetRow n (contractStart c + i) ≡ wordsAt s (contractStart c + i)
     contract-row i h =
         let u = wordsAt s (contractStart c + i) in
         lies .contract i h ∙ ap contractWords (sym (same .contract i h)) ∙ contract-back u (row-narrow s by _ .first)
 
-    first-row : rowOf n (trailerStart c) ≡ wordsAt s (trailerStart c)
+    first-row : sheetRow n (trailerStart c) ≡ wordsAt s (trailerStart c)
     unfolding trailerWords
     first-row = lies .first ∙ sym (trailer .first)
 
-    second-row : rowOf n (trailerStart c + 1) ≡ wordsAt s (trailerStart c + 1)
+    second-row : sheetRow n (trailerStart c + 1) ≡ wordsAt s (trailerStart c + 1)
     unfolding trailerWords
     second-row = lies .second ∙ sym (trailer .second)
 
     -- row r, the i-th from row b
-    moved : (b r : ℕ) → b ≤ r → rowOf n (b + (r - b)) ≡ wordsAt s (b + (r - b)) → rowOf n r ≡ wordsAt s r
+    moved : (b r : ℕ) → b ≤ r → sheetRow n (b + (r - b)) ≡ wordsAt s (b + (r - b)) → sheetRow n r ≡ wordsAt s r
     moved b r h e = let q : b + (r - b) ≡ r = omega arith in rw q at e
 
-    each-row : (r : ℕ) → r < trailerStart c + 2 → rowOf n r ≡ wordsAt s r
+    each-row : (r : ℕ) → r < trailerStart c + 2 → sheetRow n r ≡ wordsAt s r
     each-row r h =
         one (decLt r (boundaryStart c)) (decLt r (plantStart c)) (decLt r (contractStart c)) (decLt r (trailerStart c))
         (decLt r (trailerStart c + 1))
       where
         one : Dec (r < boundaryStart c) → Dec (r < plantStart c) → Dec (r < contractStart c) → Dec (r < trailerStart c)
-            → Dec (r < trailerStart c + 1) → rowOf n r ≡ wordsAt s r
+            → Dec (r < trailerStart c + 1) → sheetRow n r ≡ wordsAt s r
         one (yes l) _ _ _ _ = agent-row r l
         one (no a) (yes l) _ _ _ = moved (boundaryStart c) r (omega arith) (boundary-row _ (omega arith))
         one (no a) (no b) (yes l) _ _ = moved (plantStart c) r (omega arith) (plant-row _ (omega arith))
@@ -156,4 +156,4 @@ module _ (s : List ℕ) (c : Counts) (w : Whole s c) where
         let m = same in
         let l = w .long in
         let e : trailerStart (countsIn n) ≡ trailerStart c = ap trailerStart back-counts in
-        bytes-back s by (rowOf n) (trailerStart (countsIn n) + 2) (omega arith) (λ r h. each-row r (omega arith))
+        bytes-back s by (sheetRow n) (trailerStart (countsIn n) + 2) (omega arith) (λ r h. each-row r (omega arith))

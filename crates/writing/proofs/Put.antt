@@ -9,7 +9,7 @@ use Rattle.sums.proofs.Fill.{filled-more}
 use Rattle.rows.specs.Bytes.{word, byteOf}
 use Rattle.rows.specs.declared.Words.{Words}
 use Rattle.rows.proofs.Trip.{byte-is}
-use Rattle.writing.specs.Words.{putNumber, putRow}
+use Rattle.writing.specs.Put.{putNumber, putRow}
 
 module _ (d : List ℕ) (f : ℕ → Words) (r : ℕ) where
   -- byte m of number j

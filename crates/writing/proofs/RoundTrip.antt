@@ -16,7 +16,7 @@ use Rattle.sheet.specs.declared.Counts.{Counts}
 use Rattle.sheet.specs.declared.Reading.{Reading}
 use Rattle.sheet.proofs.Accepted.{accepted-whole, whole-accepted}
 use Rattle.writing.specs.Numbers.{Numbers, countsIn, numbersOf}
-use Rattle.writing.specs.Words.{rowOf, sheetOf}
+use Rattle.writing.specs.Words.{sheetRow, sheetOf}
 use Rattle.writing.specs.Judged.{writeVerdict, writing, Written}
 use Rattle.writing.specs.declared.Writing.{Writing}
 use Rattle.writing.proofs.Good.{fine-good, fine-room, good-fine}
@@ -81,9 +81,9 @@ written-there n before after k w =
     let l = fine-room n (length before) (d .0) in
     let m = sheetLength (countsIn n) in
     let q : m ≡ 16 * (trailerStart (countsIn n) + 2) = omega arith in
-    let f : Filled 0 before after m (byteOf (rowOf n)) = rw (d .0) at (w .bytes) in
+    let f : Filled 0 before after m (byteOf (sheetRow n)) = rw (d .0) at (w .bytes) in
     let e : take k after ≡ sheetOf n
-    = ap (λ (i : ℕ). take i after) (d .1) ∙ filled-front 0 before after m (byteOf (rowOf n)) l f ∙ ap (listTo (byteOf (rowOf n))) q in
+    = ap (λ (i : ℕ). take i after) (d .1) ∙ filled-front 0 before after m (byteOf (sheetRow n)) l f ∙ ap (listTo (byteOf (sheetRow n))) q in
     rw e (there n (length before) (d .0))
 
 -- Given the numbers of an accepted sheet and room for it, it answers that sheet's length, and the lent bytes up to there are that sheet.
@@ -100,10 +100,10 @@ written-back s c before after r by e l w =
 pub written-refused : (n : Numbers) (before after : List ℕ) (r : Refusal) → Written n before (Writing.Refused r) after → after ≡ before
 written-refused n before after r w =
     let e = refused-says (writeVerdict n (length before)) r (sheetLength (countsIn n)) (w .answer) in
-    filled-same 0 before after (byteOf (rowOf n)) (rw e at (w .bytes))
+    filled-same 0 before after (byteOf (sheetRow n)) (rw e at (w .bytes))
 
 -- Two outcomes that meet the promise are equal, answer and bytes.
 pub written-unique : (n : Numbers) (before after after′ : List ℕ) (r r′ : Writing) → Written n before r after → Written n before r′ after′
     → (r ≡ r′) × (after ≡ after′)
 written-unique n before after after′ r r′ w w′ =
-    (w .answer ∙ sym (w′ .answer), filled-unique 0 before after after′ _ (byteOf (rowOf n)) (w .bytes) (w′ .bytes))
+    (w .answer ∙ sym (w′ .answer), filled-unique 0 before after after′ _ (byteOf (sheetRow n)) (w .bytes) (w′ .bytes))

@@ -16,22 +16,22 @@ use Rattle.sheet.specs.Reading.{boundaryStart, plantStart, contractStart, trail
 use Rattle.sheet.specs.declared.Counts.{Counts}
 use Rattle.sheet.proofs.Accepted.{Whole, Few}
 use Rattle.writing.specs.Numbers.{Numbers, countsIn, agentIn, boundaryIn, plantIn, contractIn}
-use Rattle.writing.specs.Words.{agentWords, boundaryWords, plantWords, contractWords, trailerWords, rowOf, sheetOf}
+use Rattle.writing.specs.Words.{agentWords, boundaryWords, plantWords, contractWords, trailerWords, sheetRow, sheetOf}
 use Rattle.writing.proofs.Rows.{agent-narrow, boundary-narrow, plant-narrow, contract-narrow, boundary-there, plant-there, contract-there}
 use Rattle.writing.proofs.Good.{Good, good-rows, lists-few, listed-there, agent-least, agent-most}
 use Rattle.writing.proofs.Same.{Same, same-boundary, same-plant, same-contract}
 
 -- the rows of the sheet, by section
 pub record Laid (n : Numbers) (c : Counts) : Type 0 where
-  pub agent : (i : ℕ) → i < c .agents → rowOf n i ≡ agentWords (agentIn (n .agents) i)
-  pub boundary : (i : ℕ) → i < c .boundaries → rowOf n (boundaryStart c + i) ≡ boundaryWords (boundaryIn (n .boundaries) i)
-  pub plant : (i : ℕ) → i < c .plants → rowOf n (plantStart c + i) ≡ plantWords (plantIn (n .plants) i)
-  pub contract : (i : ℕ) → i < c .contracts → rowOf n (contractStart c + i) ≡ contractWords (contractIn (n .contracts) i)
-  pub first : rowOf n (trailerStart c) ≡ trailerWords c 0
-  pub second : rowOf n (trailerStart c + 1) ≡ trailerWords c 1
+  pub agent : (i : ℕ) → i < c .agents → sheetRow n i ≡ agentWords (agentIn (n .agents) i)
+  pub boundary : (i : ℕ) → i < c .boundaries → sheetRow n (boundaryStart c + i) ≡ boundaryWords (boundaryIn (n .boundaries) i)
+  pub plant : (i : ℕ) → i < c .plants → sheetRow n (plantStart c + i) ≡ plantWords (plantIn (n .plants) i)
+  pub contract : (i : ℕ) → i < c .contracts → sheetRow n (contractStart c + i) ≡ contractWords (contractIn (n .contracts) i)
+  pub first : sheetRow n (trailerStart c) ≡ trailerWords c 0
+  pub second : sheetRow n (trailerStart c + 1) ≡ trailerWords c 1
 
 pub laid : (n : Numbers) → Laid n (countsIn n)
-unfolding rowOf
+unfolding sheetRow
 laid n =
     let c = countsIn n in
     let a = boundaryStart c in
@@ -88,9 +88,9 @@ module _ (n : Numbers) (g : Good n) where
   fits-contract i h = contract-fits _ _ (contractIn (n .contracts) i) (g .contracts i h)
 
   -- a row is read as it was written
-  row-read : (r : ℕ) (w : Words) → r < trailerStart c + 2 → rowOf n r ≡ w → Narrow w → wordsAt (sheetOf n) r ≡ w
+  row-read : (r : ℕ) (w : Words) → r < trailerStart c + 2 → sheetRow n r ≡ w → Narrow w → wordsAt (sheetOf n) r ≡ w
   unfolding sheetOf
-  row-read r w h e l = rows-back (rowOf n) (trailerStart c + 2) r h (rw e l) ∙ e
+  row-read r w h e l = rows-back (sheetRow n) (trailerStart c + 2) r h (rw e l) ∙ e
 
   agent-read : (i : ℕ) → i < c .agents → wordsAt (sheetOf n) i ≡ agentWords (agentIn (n .agents) i)
   agent-read i h =
@@ -139,7 +139,7 @@ module _ (n : Numbers) (g : Good n) where
   -- ---- the trailer
   pub there-long : length (sheetOf n) ≡ sheetLength c
   unfolding sheetOf
-  there-long = length-bytesOf (rowOf n) (trailerStart c + 2) ∙ (omega arith)
+  there-long = length-bytesOf (sheetRow n) (trailerStart c + 2) ∙ (omega arith)
 
   first-read : wordsAt (sheetOf n) (trailerStart c) ≡ wordsOf (16 * trailerStart c) (c .agents) (16 * (trailerStart c - boundaryStart c)) (c .boundaries)
   unfolding trailerWords

@@ -14,7 +14,7 @@ use Rattle.rows.specs.Rows.{agentGood, boundaryGood, plantGood, contractGood}
 use Rattle.sheet.specs.Reading.{countsGood, sheetLength}
 use Rattle.sheet.specs.Asking.{bySection, rowsIn}
 use Rattle.writing.specs.Numbers.{Numbers, countsIn, agentIn, boundaryIn, plantIn, contractIn}
-use Rattle.writing.specs.Words.{rowOf}
+use Rattle.writing.specs.Words.{sheetRow}
 use Rattle.writing.specs.declared.Writing.{Writing}
 
 -- ---- refusal 2 is given exactly where this is false
@@ -69,4 +69,4 @@ writing (Verdict.Refused r) length = Writing.Refused r
 -- success hands back the sheet's length, which has its bytes; bytes past it keep their values; a refusal writes nothing
 pub record Written (n : Numbers) (before : List ℕ) (r : Writing) (after : List ℕ) : Type 0 where
   pub answer : r ≡ writing (writeVerdict n (length before)) (sheetLength (countsIn n))
-  pub bytes : Filled 0 before after (cells (writeVerdict n (length before)) (sheetLength (countsIn n))) (byteOf (rowOf n))
+  pub bytes : Filled 0 before after (cells (writeVerdict n (length before)) (sheetLength (countsIn n))) (byteOf (sheetRow n))

@@ -1,8 +1,7 @@
 -- Document 01, 'The hour sheet': the sheet that has these numbers, row by row and as bytes. Assumes nothing.
-use Prim.Native.Nat.{ℕ, _+_, _-_, _*_, _/_, _%_}
+use Prim.Native.Nat.{ℕ, _+_, _-_, _*_}
 use mathlib.Core.Bool.{cond}
 use mathlib.Core.List.{List}
-use lib.ListN.{set}
 use lib.Dec.{ltb, eqb}
 use Rattle.rows.specs.Bytes.{wordsOf, bytesOf}
 use Rattle.rows.specs.Rows.{low}
@@ -41,8 +40,8 @@ trailerWords c i =
     (wordsOf (16 * (t - plantStart c)) (c .plants) (16 * (t - contractStart c)) (c .contracts))
 
 -- row r of the sheet; the trailer is two rows more
-unfoldable pub rowOf : Numbers → ℕ → Words
-rowOf n r =
+unfoldable pub sheetRow : Numbers → ℕ → Words
+sheetRow n r =
     let c = countsIn n in
     cond (ltb r (boundaryStart c)) (agentWords (agentIn (n .agents) r))
     (cond (ltb r (plantStart c)) (boundaryWords (boundaryIn (n .boundaries) (r - boundaryStart c)))
@@ -52,13 +51,4 @@ rowOf n r =
 
 -- the whole sheet
 unfoldable pub sheetOf : Numbers → List ℕ
-sheetOf n = bytesOf (rowOf n) (trailerStart (countsIn n) + 2)
-
--- ---- a 32-bit number, least byte first, and a row of four, put into bytes at k
-unfoldable pub putNumber : List ℕ → ℕ → ℕ → List ℕ
-putNumber d k x =
-    set (set (set (set d k (x % 256)) (k + 1) (x / 256 % 256)) (k + 2) (x / 65536 % 256)) (k + 3) (x / 16777216 % 256)
-
-unfoldable pub putRow : List ℕ → ℕ → Words → List ℕ
-putRow d k w =
-    putNumber (putNumber (putNumber (putNumber d k (w .first)) (k + 4) (w .second)) (k + 8) (w .third)) (k + 12) (w .fourth)
+sheetOf n = bytesOf (sheetRow n) (trailerStart (countsIn n) + 2)

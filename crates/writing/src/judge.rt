@@ -19,10 +19,12 @@ use rows::Plant;
 fn lists_good(agents: &[u32], boundaries: &[u32], plants: &[u32], contracts: &[u32]) -> bool
     ensures { λ r. ⌜ r ≡ listsGood (numbers (now (agents .entry)) (now (boundaries .entry)) (now (plants .entry)) (now (contracts .entry))) ⌝ }
 {
-    ((agents.len() <= Agent::MOST)
-        & (boundaries.len() / 4 <= Boundary::MOST)
-        & (plants.len() / 4 <= Plant::MOST)
-        & (contracts.len() / 5 <= Contract::MOST))
+    rows::few(
+        agents.len(),
+        boundaries.len() / 4,
+        plants.len() / 4,
+        contracts.len() / 5,
+    )
         & (boundaries.len() % 4 == 0)
         & (plants.len() % 4 == 0)
         & (contracts.len() % 5 == 0)

@@ -7,7 +7,8 @@ ghost use Rattle.sums.specs.Lists.{Filled};
 ghost use Rattle.rows.specs.Bytes.{byteOf};
 ghost use Rattle.sheet.specs.Reading.{trailerStart};
 ghost use Rattle.writing.specs.Numbers.{numbers, countsIn};
-ghost use Rattle.writing.specs.Words.{halves, agentWords, boundaryWords, plantWords, contractWords, trailerWords, rowOf, putNumber, putRow};
+ghost use Rattle.writing.specs.Words.{halves, agentWords, boundaryWords, plantWords, contractWords, trailerWords, sheetRow};
+ghost use Rattle.writing.specs.Put.{putNumber, putRow};
 use super::lists;
 use rows::Agent;
 use rows::Boundary;
@@ -103,7 +104,7 @@ fn row_words(
     r: usize,
 ) -> Words
     requires { ⌜ trailerStart (countsIn (numbers (now agents) (now boundaries) (now plants) (now contracts))) < 65536 ⌝ }
-    ensures { λ w. ⌜ w ≡ rowOf (numbers (now (agents .entry)) (now (boundaries .entry)) (now (plants .entry)) (now (contracts .entry))) r ⌝ }
+    ensures { λ w. ⌜ w ≡ sheetRow (numbers (now (agents .entry)) (now (boundaries .entry)) (now (plants .entry)) (now (contracts .entry))) r ⌝ }
 {
     let a = agents.len();
     let b = a + boundaries.len() / 4;
@@ -156,7 +157,7 @@ pub(crate) fn put_sheet(
     rows: usize,
 )
     requires { ⌜ (trailerStart (countsIn (numbers (now agents) (now boundaries) (now plants) (now contracts))) < 65536) × (16 * rows ≤ length (now out)) ⌝ }
-    ensures { λ _. ⌜ Filled 0 (now (out .entry)) (now (out .exit)) (16 * rows) (byteOf (rowOf (numbers (now (agents .entry)) (now (boundaries .entry)) (now (plants .entry)) (now (contracts .entry))))) ⌝ }
+    ensures { λ _. ⌜ Filled 0 (now (out .entry)) (now (out .exit)) (16 * rows) (byteOf (sheetRow (numbers (now (agents .entry)) (now (boundaries .entry)) (now (plants .entry)) (now (contracts .entry))))) ⌝ }
 {
     for r in 0..rows {
         let w = row_words(agents, boundaries, plants, contracts, r);

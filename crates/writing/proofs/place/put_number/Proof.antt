@@ -1,4 +1,4 @@
-use Rattle.writing.specs.Words.{putNumber}
+use Rattle.writing.specs.Put.{putNumber}
 use native.Mathlib.Omega.{arith}
 use lib.ListN.{length-set}
 use borrow.Author.Needs.{needs}

@@ -1,4 +1,4 @@
-use Rattle.writing.specs.Words.{putRow}
+use Rattle.writing.specs.Put.{putRow}
 use borrow.Author.Needs.{needs}
 use Rattle.writing.proofs.place.put_row.Statement.{statement}
 use Rattle.writing.proofs.place.put_row.Tie as tie

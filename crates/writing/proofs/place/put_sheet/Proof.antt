@@ -1,4 +1,4 @@
-use Rattle.writing.specs.Words.{rowOf}
+use Rattle.writing.specs.Words.{sheetRow}
 use Rattle.writing.specs.Numbers.{numbers}
 use Rattle.sums.specs.Lists.{Filled}
 use Rattle.sums.proofs.Fill.{filled-none}
@@ -13,7 +13,7 @@ use Rattle.writing.proofs.place.put_sheet.Tie as tie
 
 abbrev Inv-loop : tie.InvT-loop
 Inv-loop agents boundaries plants contracts out₀ rows r₀ out r =
-    (r ≤ rows) × Filled 0 out₀ out (16 * r) (byteOf (rowOf (numbers agents boundaries plants contracts)))
+    (r ≤ rows) × Filled 0 out₀ out (16 * r) (byteOf (sheetRow (numbers agents boundaries plants contracts)))
 
 abbrev μ-loop : tie.MeasureT-loop
 μ-loop agents boundaries plants contracts out₀ rows r₀ out r =

@@ -1,4 +1,4 @@
-use Rattle.writing.specs.Words.{agentWords, boundaryWords, plantWords, contractWords, rowOf}
+use Rattle.writing.specs.Words.{agentWords, boundaryWords, plantWords, contractWords, sheetRow}
 use borrow.Author.Tests.{lt-ltb, le-ltb}
 use mathlib.Core.Path.{ap, _∙_}
 use borrow.Author.Needs.{needs}
@@ -9,26 +9,26 @@ trailer-words-requires : tie.Need-trailer-words-requires
 trailer-words-requires c κs = rw (c .counts-in .ensures) ((c .before .before .before .before .before .before .before .before .before) .pre)
 
 returns : tie.Need-returns
-unfolding rowOf
+unfolding sheetRow
 returns c = rw (lt-ltb _ _ ((c .before .before) .if1 .taken)) (c .agent-words .ensures ∙ ap agentWords ((c .before) .agent-in .ensures))
 
 returns-2 : tie.Need-returns-2
-unfolding rowOf
+unfolding sheetRow
 returns-2 c = rw (le-ltb _ _ ((c .before .before .before) .if1 .left), lt-ltb _ _ ((c .before .before) .if2 .taken))
     (c .boundary-words .ensures ∙ ap boundaryWords ((c .before) .boundary-in .ensures))
 
 returns-3 : tie.Need-returns-3
-unfolding rowOf
+unfolding sheetRow
 returns-3 c = rw (le-ltb _ _ ((c .before .before .before .before) .if1 .left), le-ltb _ _ ((c .before .before .before) .if2 .left), lt-ltb _ _ ((c .before .before) .if3 .taken))
     (c .plant-words .ensures ∙ ap plantWords ((c .before) .plant-in .ensures))
 
 returns-4 : tie.Need-returns-4
-unfolding rowOf
+unfolding sheetRow
 returns-4 c = rw (le-ltb _ _ ((c .before .before .before .before .before) .if1 .left), le-ltb _ _ ((c .before .before .before .before) .if2 .left), le-ltb _ _ ((c .before .before .before) .if3 .left), lt-ltb _ _ ((c .before .before) .if4 .taken))
     (c .contract-words .ensures ∙ ap contractWords ((c .before) .contract-in .ensures))
 
 returns-5 : tie.Need-returns-5
-unfolding rowOf
+unfolding sheetRow
 returns-5 c = let e = rw ((c .before) .counts-in .ensures) at (c .trailer-words .ensures) in
     rw (le-ltb _ _ ((c .before .before .before .before .before) .if1 .left), le-ltb _ _ ((c .before .before .before .before) .if2 .left), le-ltb _ _ ((c .before .before .before) .if3 .left), le-ltb _ _ ((c .before .before) .if4 .left)) e
 
