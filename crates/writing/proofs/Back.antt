@@ -28,7 +28,8 @@ pub record Trailer (s : List ℕ) (c : Counts) : Type 0 where
   pub first : wordsAt s (trailerStart c)
       ≡ wordsOf (16 * trailerStart c) (c .agents) (16 * (trailerStart c - boundaryStart c)) (c .boundaries)
   pub second : wordsAt s (trailerStart c + 1)
-      ≡ wordsOf (16 * (trailerStart c - plantStart c)) (c .plants) (16 * (trailerStart c - contractStart c)) (c .contracts)
+      ≡ wordsOf (16 * (trailerStart c - plantStart c)) (c .plants) (16 * (trailerStart c - contractStart c))
+      (c .contracts)
 
 module _ (s : List ℕ) (c : Counts) (w : Whole s c) where
   starts : length s / 16 - 2 ≡ trailerStart c
@@ -41,7 +42,10 @@ module _ (s : List ℕ) (c : Counts) (w : Whole s c) where
       let u = wordsAt s k in
       let v = wordsAt s (k + 1) in
       let e = rw starts at (w .counts) in
-      let all = all-true (eqb (u .first) (16 * k)) (eqb (u .third) (16 * (k - boundaryStart c)) ∷ eqb (v .first) (16 * (k - plantStart c)) ∷ eqb (v .third) (16 * (k - contractStart c)) ∷ []) (rw starts at (w .distances)) in
+      let all =
+      all-true (eqb (u .first) (16 * k))
+      (eqb (u .third) (16 * (k - boundaryStart c)) ∷ eqb (v .first) (16 * (k - plantStart c))
+      ∷ eqb (v .third) (16 * (k - contractStart c)) ∷ []) (rw starts at (w .distances)) in
       let f1 : u .first ≡ 16 * k = eqb-true _ _ (all .0) in
       let f2 : u .second ≡ c .agents = ap (λ (k : Counts). k .agents) e in
       let f3 : u .third ≡ 16 * (k - boundaryStart c) = eqb-true _ _ (all .1 .0) in
@@ -52,7 +56,12 @@ module _ (s : List ℕ) (c : Counts) (w : Whole s c) where
       let s4 : v .fourth ≡ c .contracts = ap (λ (k : Counts). k .contracts) e in
       record { first = words-eq u _ f1 f2 f3 f4; second = words-eq v _ s1 s2 s3 s4 }
     where
-      words-eq : (u v : Words) → u .first ≡ v .first → u .second ≡ v .second → u .third ≡ v .third → u .fourth ≡ v .fourth → u ≡ v
+      words-eq : (u v : Words)
+          → u .first ≡ v .first
+          → u .second ≡ v .second
+          → u .third ≡ v .third
+          → u .fourth ≡ v .fourth
+          → u ≡ v
       words-eq u v a b c d =
           ap (λ (x : ℕ). wordsOf x (u .second) (u .third) (u .fourth)) a
           ∙ ap (λ (x : ℕ). wordsOf (v .first) x (u .third) (u .fourth)) b

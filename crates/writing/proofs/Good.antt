@@ -29,7 +29,8 @@ pub record Good (n : Numbers) : Type 0 where
   pub plants : (i : ℕ) → i < countsIn n .plants
       → let p = plantIn (n .plants) i in plantGood (at (n .agents) (p .agent)) p ≡ true
   pub contracts : (i : ℕ) → i < countsIn n .contracts
-      → let k = contractIn (n .contracts) i in contractGood (at (n .agents) (k .seller)) (at (n .agents) (k .buyer)) k ≡ true
+      → let k =
+      contractIn (n .contracts) i in contractGood (at (n .agents) (k .seller)) (at (n .agents) (k .buyer)) k ≡ true
 
 module _ (n : Numbers) (room : ℕ) where
   pub fine-good : writeVerdict n room ≡ Verdict.Fine → Good n
@@ -39,9 +40,11 @@ module _ (n : Numbers) (room : ℕ) where
       record {
         lists = fine-test (listsGood n) _ _ (all .0);
         agents = λ i h. fine-test _ _ _ (each-fine (agentListed (n .agents)) _ i (all .1 .0) h);
-        boundaries = λ i h. fine-test _ _ _ (each-fine (boundaryListed (n .agents) (n .boundaries)) _ i (all .1 .1 .0) h);
+        boundaries =
+            λ i h. fine-test _ _ _ (each-fine (boundaryListed (n .agents) (n .boundaries)) _ i (all .1 .1 .0) h);
         plants = λ i h. fine-test _ _ _ (each-fine (plantListed (n .agents) (n .plants)) _ i (all .1 .1 .1 .0) h);
-        contracts = λ i h. fine-test _ _ _ (each-fine (contractListed (n .agents) (n .contracts)) _ i (all .1 .1 .1 .1 .0) h);
+        contracts =
+            λ i h. fine-test _ _ _ (each-fine (contractListed (n .agents) (n .contracts)) _ i (all .1 .1 .1 .1 .0) h);
       }
 
   pub fine-room : writeVerdict n room ≡ Verdict.Fine → sheetLength (countsIn n) ≤ room
@@ -82,7 +85,9 @@ pub record WholeRows (n : Numbers) : Type 0 where
 
 pub good-rows : (n : Numbers) → listsGood n ≡ true → WholeRows n
 good-rows n e =
-    let all = all-true (countsGood (countsIn n)) (eqb (length (n .boundaries) % 4) 0 ∷ eqb (length (n .plants) % 4) 0 ∷ eqb (length (n .contracts) % 5) 0 ∷ []) e in
+    let all =
+    all-true (countsGood (countsIn n))
+    (eqb (length (n .boundaries) % 4) 0 ∷ eqb (length (n .plants) % 4) 0 ∷ eqb (length (n .contracts) % 5) 0 ∷ []) e in
     let u = eqb-true (length (n .boundaries) % 4) 0 (all .1 .0) in
     let v = eqb-true (length (n .plants) % 4) 0 (all .1 .1 .0) in
     let w = eqb-true (length (n .contracts) % 5) 0 (all .1 .1 .1 .0) in
@@ -122,7 +127,8 @@ unfolding rowsIn
 rows-small n section e = go (eqb section 1) (eqb section 2) (eqb section 3) (eqb section 4)
   where
     go : (x y z w : Bool)
-        → let c = countsIn n in cond x (c .agents) (cond y (c .boundaries) (cond z (c .plants) (cond w (c .contracts) 0))) < 65536
+        → let c =
+        countsIn n in cond x (c .agents) (cond y (c .boundaries) (cond z (c .plants) (cond w (c .contracts) 0))) < 65536
     go true y z w = let l = lists-small n e in omega arith
     go false true z w = let l = lists-small n e in omega arith
     go false false true w = let l = lists-small n e in omega arith

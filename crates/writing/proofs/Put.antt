@@ -13,7 +13,12 @@ use Rattle.writing.specs.Put.{putNumber, putRow}
 
 module _ (d : List ℕ) (f : ℕ → Words) (r : ℕ) where
   -- byte m of number j
-  byte-more : (e : List ℕ) (j m k v : ℕ) → j < 4 → m < 4 → k ≡ 16 * r + 4 * j + m → k < length d → v ≡ word (f r) j / 256 ^ m % 256
+  byte-more : (e : List ℕ) (j m k v : ℕ)
+      → j < 4
+      → m < 4
+      → k ≡ 16 * r + 4 * j + m
+      → k < length d
+      → v ≡ word (f r) j / 256 ^ m % 256
       → Filled 0 d e k (byteOf f) → Filled 0 d (set e k v) (k + 1) (byteOf f)
   byte-more e j m k v hj hm q h w r =
       let l = r .long in

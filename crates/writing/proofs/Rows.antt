@@ -36,7 +36,11 @@ boundary-narrow b u v = record { first = halves-narrow _ _; second = omega arith
 pub plant-narrow : (p : Plant) → p .price < 4294967296 → p .availability < 4294967296 → Narrow (plantWords p)
 plant-narrow p u v = record { first = halves-narrow _ _; second = omega arith; third = u; fourth = v }
 
-pub contract-narrow : (k : Contract) → k .kind < 4294967296 → k .price < 4294967296 → k .quantity < 4294967296 → Narrow (contractWords k)
+pub contract-narrow : (k : Contract)
+    → k .kind < 4294967296
+    → k .price < 4294967296
+    → k .quantity < 4294967296
+    → Narrow (contractWords k)
 contract-narrow k t u v = record { first = halves-narrow _ _; second = t; third = u; fourth = v }
 
 -- ---- the row of its numbers is the row; two-byte fields hold what fits them

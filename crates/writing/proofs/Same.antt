@@ -127,11 +127,13 @@ module _ (s : List ℕ) (c : Counts) (n : Numbers) (m : Same s c n) where
       let a = listTo-is 0 (λ k. agentAt s c k .kind) (c .agents) (n .agents) (m .agents)
       (λ i h. ap (λ (x : Agent). x .kind) (sym (m .agent i h))) in
       let b = rows-are 4 (c .boundaries) (λ i j. boundaryNumber (boundaryAt s c i) j) (n .boundaries) (m .boundaries)
-      (λ q j h l. boundary-number (n .boundaries) q j l ∙ ap (λ (x : Boundary). boundaryNumber x j) (sym (m .boundary q h))) in
+      (λ q j h l. boundary-number (n .boundaries) q j l
+      ∙ ap (λ (x : Boundary). boundaryNumber x j) (sym (m .boundary q h))) in
       let p = rows-are 4 (c .plants) (λ i j. plantNumber (plantAt s c i) j) (n .plants) (m .plants)
       (λ q j h l. plant-number (n .plants) q j l ∙ ap (λ (x : Plant). plantNumber x j) (sym (m .plant q h))) in
       let k = rows-are 5 (c .contracts) (λ i j. contractNumber (contractAt s c i) j) (n .contracts) (m .contracts)
-      (λ q j h l. contract-number (n .contracts) q j l ∙ ap (λ (x : Contract). contractNumber x j) (sym (m .contract q h))) in
+      (λ q j h l. contract-number (n .contracts) q j l
+      ∙ ap (λ (x : Contract). contractNumber x j) (sym (m .contract q h))) in
       rw (← a, ← b, ← p, ← k)
 
   -- the kinds of their agents are the same, 0 where there is no such agent

@@ -24,9 +24,13 @@ use Rattle.writing.proofs.Same.{Same, same-boundary, same-plant, same-c
 -- the rows of the sheet, by section
 pub record Laid (n : Numbers) (c : Counts) : Type 0 where
   pub agent : (i : ℕ) → i < c .agents → sheetRow n i ≡ agentWords (agentIn (n .agents) i)
-  pub boundary : (i : ℕ) → i < c .boundaries → sheetRow n (boundaryStart c + i) ≡ boundaryWords (boundaryIn (n .boundaries) i)
+  pub boundary : (i : ℕ)
+      → i < c .boundaries
+      → sheetRow n (boundaryStart c + i) ≡ boundaryWords (boundaryIn (n .boundaries) i)
   pub plant : (i : ℕ) → i < c .plants → sheetRow n (plantStart c + i) ≡ plantWords (plantIn (n .plants) i)
-  pub contract : (i : ℕ) → i < c .contracts → sheetRow n (contractStart c + i) ≡ contractWords (contractIn (n .contracts) i)
+  pub contract : (i : ℕ)
+      → i < c .contracts
+      → sheetRow n (contractStart c + i) ≡ contractWords (contractIn (n .contracts) i)
   pub first : sheetRow n (trailerStart c) ≡ trailerWords c 0
   pub second : sheetRow n (trailerStart c + 1) ≡ trailerWords c 1
 
@@ -51,10 +55,22 @@ laid n =
       contract = λ i h.
           let e : p + i - p ≡ i = omega arith in
           let l : p + i < k = omega arith in
-          rw (le-ltb (p + i) a (omega arith), le-ltb (p + i) b (omega arith), le-ltb (p + i) p (omega arith), lt-ltb (p + i) k l, e);
+          rw (
+            le-ltb (p + i) a (omega arith),
+            le-ltb (p + i) b (omega arith),
+            le-ltb (p + i) p (omega arith),
+            lt-ltb (p + i) k l,
+            e,
+          );
       first =
           let e : k - k ≡ 0 = omega arith in
-          rw (le-ltb k a (omega arith), le-ltb k b (omega arith), le-ltb k p (omega arith), le-ltb k k (omega arith), e);
+          rw (
+            le-ltb k a (omega arith),
+            le-ltb k b (omega arith),
+            le-ltb k p (omega arith),
+            le-ltb k k (omega arith),
+            e,
+          );
       second =
           let e : k + 1 - k ≡ 1 = omega arith in
           rw (
@@ -97,7 +113,9 @@ module _ (n : Numbers) (g : Good n) where
       let k = agent-most (at (n .agents) i) (g .agents i h) in
       row-read i _ (omega arith) (laid n .agent i h) (agent-narrow _ (omega arith))
 
-  boundary-read : (i : ℕ) → i < c .boundaries → wordsAt (sheetOf n) (boundaryStart c + i) ≡ boundaryWords (boundaryIn (n .boundaries) i)
+  boundary-read : (i : ℕ)
+      → i < c .boundaries
+      → wordsAt (sheetOf n) (boundaryStart c + i) ≡ boundaryWords (boundaryIn (n .boundaries) i)
   boundary-read i h =
       let f = fits-boundary i h in
       row-read _ _ (omega arith) (laid n .boundary i h) (boundary-narrow _ (omega arith) (omega arith))
@@ -107,7 +125,9 @@ module _ (n : Numbers) (g : Good n) where
       let f = fits-plant i h in
       row-read _ _ (omega arith) (laid n .plant i h) (plant-narrow _ (omega arith) (omega arith))
 
-  contract-read : (i : ℕ) → i < c .contracts → wordsAt (sheetOf n) (contractStart c + i) ≡ contractWords (contractIn (n .contracts) i)
+  contract-read : (i : ℕ)
+      → i < c .contracts
+      → wordsAt (sheetOf n) (contractStart c + i) ≡ contractWords (contractIn (n .contracts) i)
   contract-read i h =
       let f = fits-contract i h in
       row-read _ _ (omega arith) (laid n .contract i h) (contract-narrow _ (omega arith) (omega arith) (omega arith))
@@ -141,7 +161,8 @@ module _ (n : Numbers) (g : Good n) where
   unfolding sheetOf
   there-long = length-bytesOf (sheetRow n) (trailerStart c + 2) ∙ (omega arith)
 
-  first-read : wordsAt (sheetOf n) (trailerStart c) ≡ wordsOf (16 * trailerStart c) (c .agents) (16 * (trailerStart c - boundaryStart c)) (c .boundaries)
+  first-read : wordsAt (sheetOf n) (trailerStart c)
+      ≡ wordsOf (16 * trailerStart c) (c .agents) (16 * (trailerStart c - boundaryStart c)) (c .boundaries)
   unfolding trailerWords
   first-read =
       let f = few in
@@ -149,7 +170,8 @@ module _ (n : Numbers) (g : Good n) where
       (record { first = omega arith; second = omega arith; third = omega arith; fourth = omega arith })
 
   second-read : wordsAt (sheetOf n) (trailerStart c + 1)
-      ≡ wordsOf (16 * (trailerStart c - plantStart c)) (c .plants) (16 * (trailerStart c - contractStart c)) (c .contracts)
+      ≡ wordsOf (16 * (trailerStart c - plantStart c)) (c .plants) (16 * (trailerStart c - contractStart c))
+      (c .contracts)
   unfolding trailerWords
   second-read =
       let f = few in
@@ -169,7 +191,8 @@ module _ (n : Numbers) (g : Good n) where
         long = there-long;
         distances =
             rw (starts, first-read, second-read)
-            (four-equal (16 * trailerStart c) (16 * (trailerStart c - boundaryStart c)) (16 * (trailerStart c - plantStart c))
+            (four-equal (16 * trailerStart c) (16 * (trailerStart c - boundaryStart c))
+            (16 * (trailerStart c - plantStart c))
             (16 * (trailerStart c - contractStart c)));
         agentBlanks = λ i h. rw (agent-read i h);
         agents = λ i h. ap agentGood (m .agent i h) ∙ g .agents i h;

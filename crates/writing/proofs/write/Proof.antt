@@ -13,17 +13,34 @@ use borrow.Author.Needs.{needs}
 use Rattle.writing.proofs.write.Statement.{statement}
 use Rattle.writing.proofs.write.Tie as tie
 
+-- ways back: X-to-Y leads from the place X of the code to the earlier place Y
+abbrev shared-slice-known-to-start : tie.After-shared-slice-known → tie.Start
+shared-slice-known-to-start c = c .before
+
+abbrev enum-told-to-start : tie.After-enum-told → tie.Start
+enum-told-to-start c = shared-slice-known-to-start (c .before .before .before .before .before .before .before)
+
+abbrev size-to-start : tie.After-size → tie.Start
+size-to-start c = enum-told-to-start (c .before .before)
+
+abbrev put-sheet-arg-to-enum-told : tie.After-put-sheet-arg → tie.After-enum-told
+put-sheet-arg-to-enum-told c = c .before .before .before
+
+abbrev put-sheet-arg-to-start : tie.After-put-sheet-arg → tie.Start
+put-sheet-arg-to-start c = size-to-start (c .before)
+
 abbrev given : tie.Start → Numbers
 given c = numbers (now (c .args .agents)) (now (c .args .boundaries)) (now (c .args .plants)) (now (c .args .contracts))
 
 -- the lists were taken
-taken : (c : tie.After-enum-told) → writeVerdict (given (c .before .before .before .before .before .before .before .before)) (length (now ((c .before .before .before .before .before .before .before .before) .args .out))) ≡ Verdict.Fine
+taken : (c : tie.After-enum-told)
+    → writeVerdict (given (enum-told-to-start c)) (length (now (enum-told-to-start c .args .out))) ≡ Verdict.Fine
 taken c = sym ((c .before .before) .write-verdict .ensures) ∙ c .enum-told .given .1
 
-small : (c : tie.After-enum-told) → trailerStart (countsIn (given (c .before .before .before .before .before .before .before .before))) < 65536
-small c = lists-small (given (c .before .before .before .before .before .before .before .before)) (fine-good (given (c .before .before .before .before .before .before .before .before)) _ (taken c) .lists)
+small : (c : tie.After-enum-told) → trailerStart (countsIn (given (enum-told-to-start c))) < 65536
+small c = lists-small (given (enum-told-to-start c)) (fine-good (given (enum-told-to-start c)) _ (taken c) .lists)
 
-size-is : (c : tie.After-size) → c .size .result ≡ sheetLength (countsIn (given (c .before .before .before .before .before .before .before .before .before .before)))
+size-is : (c : tie.After-size) → c .size .result ≡ sheetLength (countsIn (given (size-to-start c)))
 size-is c = c .size .ensures ∙ ap sheetLength ((c .before) .counts-in .ensures)
 
 enum-told : tie.Need-enum-told
@@ -33,18 +50,28 @@ size-requires : tie.Need-size-requires
 size-requires c κs = rw (c .counts-in .ensures) (small (c .before))
 
 put-sheet-requires : tie.Need-put-sheet-requires
-put-sheet-requires c κs = let l = fine-room (given (c .before .before .before .before .before .before .before .before .before .before .before)) (length (now ((c .before .before .before .before .before .before .before .before .before .before .before) .args .out))) (taken (c .before .before .before)) in
+put-sheet-requires c κs =
+    let l =
+    fine-room (given (put-sheet-arg-to-start c)) (length (now (put-sheet-arg-to-start c .args .out)))
+    (taken (put-sheet-arg-to-enum-told c)) in
     let s = size-is (c .before) in
-    (small (c .before .before .before), omega arith)
+    (small (put-sheet-arg-to-enum-told c), omega arith)
 
 returns : tie.Need-returns
-returns c = let e = taken (c .before .before .before .before .before .before) in
-    let s = size-is (c .before .before .before .before) in
-    let q : 16 * ((c .before .before .before .before) .size .result / 16) ≡ sheetLength (countsIn (given (c .before .before .before .before .before .before .before .before .before .before .before .before .before .before))) = omega arith in
+returns c =
+    let at-size = c .before .before .before .before in
+    let at-enum-told = at-size .before .before in
+    let at-shared-slice-known = at-enum-told .before .before .before .before .before .before .before in
+    let at-start = at-shared-slice-known .before in
+    let e = taken at-enum-told in
+    let s = size-is at-size in
+    let q : 16 * (at-size .size .result / 16) ≡ sheetLength (countsIn (given at-start)) = omega arith in
     record { answer = rw (e, s); bytes = rw (e, ← q) ((c .before .before) .put-sheet .ensures) }
 
 returns-2 : tie.Need-returns-2
-returns-2 c = let e = sym ((c .before .before .before) .write-verdict .ensures) ∙ (c .before) .v .given .1 in
+returns-2 c =
+    let at-write-verdict = c .before .before .before in
+    let e = sym (at-write-verdict .write-verdict .ensures) ∙ (c .before) .v .given .1 in
     record { answer = rw e; bytes = rw e (filled-none _ _ _) }
 
 pub write-spec : {M : Type 1} → statement M

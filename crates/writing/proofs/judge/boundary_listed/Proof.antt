@@ -5,7 +5,13 @@ use Rattle.writing.proofs.judge.boundary_listed.Tie as tie
 
 returns : tie.Need-returns
 unfolding boundaryListed
-returns c = rw (c .unless .ensures, (c .before) .boundary-good .ensures, (c .before .before) .kind-in .ensures, (c .before .before .before) .boundary-in .ensures)
+returns c =
+    rw (
+      c .unless .ensures,
+      (c .before) .boundary-good .ensures,
+      (c .before .before) .kind-in .ensures,
+      (c .before .before .before) .boundary-in .ensures,
+    )
 
 pub boundary-listed-spec : {M : Type 1} → statement M
 boundary-listed-spec =

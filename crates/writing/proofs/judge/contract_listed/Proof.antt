@@ -5,7 +5,14 @@ use Rattle.writing.proofs.judge.contract_listed.Tie as tie
 
 returns : tie.Need-returns
 unfolding contractListed
-returns c = rw (c .unless .ensures, (c .before) .contract-good .ensures, (c .before .before) .kind-in2 .ensures, (c .before .before .before) .kind-in .ensures, (c .before .before .before .before) .contract-in .ensures)
+returns c =
+    rw (
+      c .unless .ensures,
+      (c .before) .contract-good .ensures,
+      (c .before .before) .kind-in2 .ensures,
+      (c .before .before .before) .kind-in .ensures,
+      (c .before .before .before .before) .contract-in .ensures,
+    )
 
 pub contract-listed-spec : {M : Type 1} → statement M
 contract-listed-spec =

@@ -7,19 +7,23 @@ use Rattle.writing.proofs.judge.row_listed.Tie as tie
 
 agent-listed-requires : tie.Need-agent-listed-requires
 unfolding rowsIn
-agent-listed-requires c κs = let h = rw (c .match .keys1) at ((c .before .before .before .before .before) .pre .0) in (omega arith, omega arith)
+agent-listed-requires c κs =
+    let h = rw (c .match .keys1) at ((c .before .before .before .before .before) .pre .0) in (omega arith, omega arith)
 
 boundary-listed-requires : tie.Need-boundary-listed-requires
 unfolding rowsIn
-boundary-listed-requires c κs = let h = rw (c .match .keys2) at ((c .before .before .before .before .before) .pre .0) in (omega arith, omega arith)
+boundary-listed-requires c κs =
+    let h = rw (c .match .keys2) at ((c .before .before .before .before .before) .pre .0) in (omega arith, omega arith)
 
 plant-listed-requires : tie.Need-plant-listed-requires
 unfolding rowsIn
-plant-listed-requires c κs = let h = rw (c .match .keys3) at ((c .before .before .before .before .before) .pre .0) in (omega arith, omega arith)
+plant-listed-requires c κs =
+    let h = rw (c .match .keys3) at ((c .before .before .before .before .before) .pre .0) in (omega arith, omega arith)
 
 contract-listed-requires : tie.Need-contract-listed-requires
 unfolding rowsIn
-contract-listed-requires c κs = let h = rw (c .match .keys4) at ((c .before .before .before .before .before) .pre .0) in (omega arith, omega arith)
+contract-listed-requires c κs =
+    let h = rw (c .match .keys4) at ((c .before .before .before .before .before) .pre .0) in (omega arith, omega arith)
 
 returns : tie.Need-returns
 unfolding rowListed

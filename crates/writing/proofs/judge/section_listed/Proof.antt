@@ -20,6 +20,25 @@ abbrev μ-loop : tie.MeasureT-loop
 μ-loop agents boundaries plants contracts section n i₀ i =
     n - i
 
+-- ways back: X-to-Y leads from the place X of the code to the earlier place Y
+abbrev after-loop-to-start : tie.After-loop Inv-loop μ-loop → tie.Start Inv-loop μ-loop
+after-loop-to-start c = c .before .before .before .before .before .before
+
+abbrev enum-told-to-in-loop : tie.After-enum-told Inv-loop μ-loop → tie.In-loop Inv-loop μ-loop
+enum-told-to-in-loop c = c .before .before .before
+
+abbrev enum-told-to-loop : tie.After-enum-told Inv-loop μ-loop → tie.At-loop Inv-loop μ-loop
+enum-told-to-loop c = c .before .before .before .before
+
+abbrev enum-told2-to-in-loop : tie.After-enum-told2 Inv-loop μ-loop → tie.In-loop Inv-loop μ-loop
+enum-told2-to-in-loop c = c .before .before .before
+
+abbrev enum-told2-to-loop : tie.After-enum-told2 Inv-loop μ-loop → tie.At-loop Inv-loop μ-loop
+enum-told2-to-loop c = c .before .before .before .before
+
+abbrev enum-told2-to-start : tie.After-enum-told2 Inv-loop μ-loop → tie.Start Inv-loop μ-loop
+enum-told2-to-start c = enum-told2-to-loop c .before .before .before .before .before
+
 abbrev given : tie.Start Inv-loop μ-loop → Numbers
 given c = numbers (now (c .args .agents)) (now (c .args .boundaries)) (now (c .args .plants)) (now (c .args .contracts))
 
@@ -28,8 +47,9 @@ loop-holds c = (search needs, from-start _ _)
 
 row-listed-requires : tie.Need-row-listed-requires Inv-loop μ-loop
 row-listed-requires c κs =
-    let l = rw ((c .before .before .before .before .before .before) .pre .1) at (c .loop-test .taken) in
-    (l, omega (arith, rows-small (given (c .before .before .before .before .before .before)) ((c .before .before .before .before .before .before) .args .section) ((c .before .before .before .before .before .before) .pre .0), l))
+    let at-start = c .before .before .before .before .before .before in
+    let l = rw (at-start .pre .1) at (c .loop-test .taken) in
+    (l, omega (arith, rows-small (given at-start) (at-start .args .section) (at-start .pre .0), l))
 
 enum-told : tie.Need-enum-told Inv-loop μ-loop
 enum-told c = search needs
@@ -38,19 +58,23 @@ returns : tie.Need-returns Inv-loop μ-loop
 unfolding sectionListed
 returns c =
     let e = sym ((c .before .before) .row-listed .ensures) ∙ c .enum-told2 .given .1 in
-    c .enum-told2 .given .1 ∙ sym ((c .before .before .before .before) .loop .inv .1 ∙ bad-row _ _ _ _ ((c .before .before .before) .loop-test .taken) e)
-    ∙ ap (firstBad _ 0) ((c .before .before .before .before .before .before .before .before .before) .pre .1)
+    c .enum-told2 .given .1 ∙ sym
+    (enum-told2-to-loop c .loop .inv .1 ∙ bad-row _ _ _ _ (enum-told2-to-in-loop c .loop-test .taken) e)
+    ∙ ap (firstBad _ 0) (enum-told2-to-start c .pre .1)
 
 loop-again : tie.Need-loop-again Inv-loop μ-loop
 loop-again c = (
   search needs,
-  (c .before .before .before .before) .loop .inv .1
-      ∙ good-row _ _ _ ((c .before .before .before) .loop-test .taken) (sym ((c .before .before) .row-listed .ensures) ∙ c .enum-told .given .1),
+  enum-told-to-loop c .loop .inv .1
+      ∙ good-row _ _ _ (enum-told-to-in-loop c .loop-test .taken)
+      (sym ((c .before .before) .row-listed .ensures) ∙ c .enum-told .given .1),
 )
 
 returns-2 : tie.Need-returns-2 Inv-loop μ-loop
 unfolding sectionListed
-returns-2 c = sym ((c .before) .loop .inv .1 ∙ none-bad _ _ _ (c .loop-test .left)) ∙ ap (firstBad _ 0) ((c .before .before .before .before .before .before) .pre .1)
+returns-2 c =
+    sym ((c .before) .loop .inv .1 ∙ none-bad _ _ _ (c .loop-test .left))
+    ∙ ap (firstBad _ 0) (after-loop-to-start c .pre .1)
 
 pub section-listed-spec : {M : Type 1} → statement M
 section-listed-spec =

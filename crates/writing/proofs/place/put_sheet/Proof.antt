@@ -42,7 +42,10 @@ same-length : tie.Need-same-length Inv-loop μ-loop
 same-length c = (c .before) .loop .inv .1 .long
 
 returns : tie.Need-returns Inv-loop μ-loop
-returns c = let e : (c .before) .loop .r ≡ (c .before .before .before .before .before .before .before) .args .rows = omega arith in rw e at ((c .before) .loop .inv .1)
+returns c =
+    let e : (c .before) .loop .r
+    ≡ (c .before .before .before .before .before .before .before) .args .rows = omega arith in
+    rw e at ((c .before) .loop .inv .1)
 
 pub put-sheet-spec : {M : Type 1} → statement M
 put-sheet-spec =
