@@ -108,7 +108,12 @@ module _ (s : List ℕ) (c : Counts) where
   generator-is : (x a : ℕ) → x ≡ a → a < c .agents → kindAt s c a ≡ 2 → retails (columnsOf s c) x ≡ false
   generator-is x a p l e = ap (retails (columnsOf s c)) p ∙ retails-is a l ∙ ne-eqb (kindAt s c a) 1 (λ q. omega arith)
 
-  generator-kind : (x a : ℕ) → x ≡ a → a < c .agents → (kindAt s c a ≡ 1) ⊎ (kindAt s c a ≡ 2) → retails (columnsOf s c) x ≡ false → kindAt s c a ≡ 2
+  generator-kind : (x a : ℕ)
+      → x ≡ a
+      → a < c .agents
+      → (kindAt s c a ≡ 1) ⊎ (kindAt s c a ≡ 2)
+      → retails (columnsOf s c) x ≡ false
+      → kindAt s c a ≡ 2
   generator-kind x a p l (inl e) g = absurd (false≢true (sym g ∙ retailer-is x a p l e))
   generator-kind x a p l (inr e) g = e
 
@@ -123,7 +128,12 @@ module _ (s : List ℕ) (c : Counts) where
           factor = omega (arith, factor-at j l, r .fits .factor);
           import = omega (arith, import-at j l, r .fits .import);
           export = omega (arith, export-at j l, r .fits .export);
-          unreferred = λ g. omega (arith, factor-at j l, r .fits .unreferred (generator-kind _ _ (owner-at j l) (r .there) (agent-kind _ (r .fits .known)) g));
+          unreferred =
+              λ g. omega (
+                arith,
+                factor-at j l,
+                r .fits .unreferred (generator-kind _ _ (owner-at j l) (r .there) (agent-kind _ (r .fits .known)) g),
+              );
         }
 
     plant-sound : (i : ℕ) → i < plants (columnsOf s c) → PlantSound (columnsOf s c) i

@@ -18,6 +18,7 @@ use Rattle.sheet.specs.Asking.{agentAt, boundaryAt, plantAt, contractAt}
 use Rattle.sheet.specs.declared.Counts.{Counts}
 use Rattle.hour.specs.Sheet.{Sheet, agents, plants, contracts}
 use Rattle.hour.specs.Balance.{consumed, entering, leaving, losses, hourDemand}
+use Rattle.hour.specs.Lines.{cellsPerAgent}
 use Rattle.hour.specs.Answer.{Lent, firstOver, balanceVerdict, coverVerdict, roomVerdict}
 
 -- fine, or refused with a number from lo to hi
@@ -57,13 +58,17 @@ read-between bytes =
       (
         unless-between 1 6 (layoutGood bytes) badLayout 0 (omega arith) (omega arith),
         (
-          bad-between 1 6 (agentVerdict bytes c) 0 (c .agents) (λ j. unless-between 1 6 (agentTest bytes c j) badAgent j (omega arith) (omega arith)),
+          bad-between 1 6 (agentVerdict bytes c) 0 (c .agents)
+              (λ j. unless-between 1 6 (agentTest bytes c j) badAgent j (omega arith) (omega arith)),
           (
-            bad-between 1 6 (boundaryVerdict bytes c) 0 (c .boundaries) (λ j. unless-between 1 6 (boundaryTest bytes c j) badBoundary j (omega arith) (omega arith)),
+            bad-between 1 6 (boundaryVerdict bytes c) 0 (c .boundaries)
+                (λ j. unless-between 1 6 (boundaryTest bytes c j) badBoundary j (omega arith) (omega arith)),
             (
-              bad-between 1 6 (plantVerdict bytes c) 0 (c .plants) (λ j. unless-between 1 6 (plantTest bytes c j) badPlant j (omega arith) (omega arith)),
+              bad-between 1 6 (plantVerdict bytes c) 0 (c .plants)
+                  (λ j. unless-between 1 6 (plantTest bytes c j) badPlant j (omega arith) (omega arith)),
               (
-                bad-between 1 6 (contractVerdict bytes c) 0 (c .contracts) (λ j. unless-between 1 6 (contractTest bytes c j) badContract j (omega arith) (omega arith)),
+                bad-between 1 6 (contractVerdict bytes c) 0 (c .contracts)
+                    (λ j. unless-between 1 6 (contractTest bytes c j) badContract j (omega arith) (omega arith)),
                 tt,
               ),
             ),
@@ -76,19 +81,24 @@ read-between bytes =
     agentTest s c i = agentBlank (wordsAt s i) && agentGood (agentAt s c i)
 
     boundaryTest : List ℕ → Counts → ℕ → Bool
-    boundaryTest s c i = rowBlank (wordsAt s (boundaryStart c + i)) && boundaryGood (kindAt s c (boundaryAt s c i .agent)) (boundaryAt s c i)
+    boundaryTest s c i =
+        rowBlank (wordsAt s (boundaryStart c + i))
+        && boundaryGood (kindAt s c (boundaryAt s c i .agent)) (boundaryAt s c i)
 
     plantTest : List ℕ → Counts → ℕ → Bool
-    plantTest s c i = rowBlank (wordsAt s (plantStart c + i)) && plantGood (kindAt s c (plantAt s c i .agent)) (plantAt s c i)
+    plantTest s c i =
+        rowBlank (wordsAt s (plantStart c + i)) && plantGood (kindAt s c (plantAt s c i .agent)) (plantAt s c i)
 
     contractTest : List ℕ → Counts → ℕ → Bool
-    contractTest s c i = contractGood (kindAt s c (contractAt s c i .seller)) (kindAt s c (contractAt s c i .buyer)) (contractAt s c i)
+    contractTest s c i =
+        contractGood (kindAt s c (contractAt s c i .seller)) (kindAt s c (contractAt s c i .buyer)) (contractAt s c i)
 
 -- the balance with 7 to 9
 pub balance-between : (s : Sheet) → Between 7 9 (balanceVerdict s)
 unfolding balanceVerdict
 balance-between s =
-    first-between 7 9 (refusedUnless over badExports (firstOver s) ∷ refusedUnless gain badGain 0 ∷ refusedUnless shared unshared 0 ∷ []) (
+    first-between 7 9 (refusedUnless over badExports (firstOver s) ∷ refusedUnless gain badGain 0
+    ∷ refusedUnless shared unshared 0 ∷ []) (
       unless-between 7 9 over badExports (firstOver s) (omega arith) (omega arith),
       (
         unless-between 7 9 gain badGain 0 (omega arith) (omega arith),
@@ -111,14 +121,17 @@ balance-between s =
 -- the plants with 10
 pub cover-between : (s : Sheet) → Between 10 10 (coverVerdict s)
 unfolding coverVerdict
-cover-between s = unless-between 10 10 (leb (hourDemand s) (sum (plants s) (at (s .available)))) uncovered 0 (omega arith) (omega arith)
+cover-between s =
+    unless-between 10 10 (leb (hourDemand s) (sum (plants s) (at (s .available)))) uncovered 0 (omega arith)
+    (omega arith)
 
 -- the room with 11
 pub room-between : (s : Sheet) (l : Lent) → Between 11 11 (roomVerdict s l)
 unfolding roomVerdict
 room-between s l =
     unless-between 11 11
-    (leb (6 * agents s) (length (l .figures)) && leb (agents s) (length (l .money)) && leb (plants s) (length (l .schedule)) && leb (contracts s) (length (l .amounts)))
+    (leb (cellsPerAgent * agents s) (length (l .figures)) && leb (agents s) (length (l .money))
+    && leb (plants s) (length (l .schedule)) && leb (contracts s) (length (l .amounts)))
     noRoom
     0
     (omega arith)
@@ -128,8 +141,20 @@ room-between s l =
 abbrev pub inOrder : (reads balance cover room : Verdict) → Verdict
 inOrder r b c m = orElse r (orElse b (orElse c (orElse m Verdict.Fine)))
 
+-- 0, or one of 1 to 11
+pub listed : (r b c m : Verdict) → Between 1 6 r → Between 7 9 b → Between 10 10 c → Between 11 11 m
+    → (numberOf (inOrder r b c m) ≡ 0) ⊎ ((1 ≤ numberOf (inOrder r b c m)) × (numberOf (inOrder r b c m) ≤ 11))
+listed Verdict.Fine Verdict.Fine Verdict.Fine Verdict.Fine hr hb hc hm = inl refl
+listed Verdict.Fine Verdict.Fine Verdict.Fine (Verdict.Refused q) hr hb hc hm = inr (omega arith, omega arith)
+listed Verdict.Fine Verdict.Fine (Verdict.Refused q) m hr hb hc hm = inr (omega arith, omega arith)
+listed Verdict.Fine (Verdict.Refused q) c m hr hb hc hm = inr (omega arith, omega arith)
+listed (Verdict.Refused q) b c m hr hb hc hm = inr (omega arith, omega arith)
+
 -- 0 or above 9: reading and balance were passed
-pub early-passed : (r b c m : Verdict) → Between 1 6 r → Between 7 9 b → (numberOf (inOrder r b c m) ≡ 0) ⊎ (9 < numberOf (inOrder r b c m))
+pub early-passed : (r b c m : Verdict)
+    → Between 1 6 r
+    → Between 7 9 b
+    → (numberOf (inOrder r b c m) ≡ 0) ⊎ (9 < numberOf (inOrder r b c m))
     → (r ≡ Verdict.Fine) × (b ≡ Verdict.Fine)
 early-passed Verdict.Fine Verdict.Fine c m hr hb h = (refl, refl)
 early-passed (Verdict.Refused q) b c m hr hb (inl e) = absurd (omega arith)

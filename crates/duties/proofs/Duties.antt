@@ -8,29 +8,29 @@ use mathlib.Core.Logic.{_↔_, _⊎_}
 use mathlib.Core.Path.{_≡_, _∙_, sym}
 use lib.IntN.{pos}
 use Rattle.sums.specs.Sums.{sum, pick}
-use Rattle.sums.proofs.Fill.{filled-unique}
 use Rattle.columns.specs.Columns.{hourOf}
 use Rattle.hour.specs.Balance.{hourDemand}
 use Rattle.hour.specs.Signed.{signedSum}
 use Rattle.hour.specs.Answer.{Lent, Roomy}
 use Rattle.hour.specs.declared.Summary.{Summary}
 use Rattle.settle.specs.Settled.{Settled}
-use Rattle.duties.specs.Result.{agentsOf, contractsOf, isRetailer, isGenerator, generatedIn, PossibleFor, costOf, Passes, Untouched, shareIn, contractedIn, boughtIn, soldIn, moneyIn, scheduleIn, amountIn}
+use Rattle.settle.proofs.Judged.{settled-unique}
+use Rattle.duties.specs.Result.{agentsOf, contractsOf, retailerIn, generatorIn, generatedIn, PossibleFor, costOf, Passes, Untouched, shareIn, contractedIn, boughtIn, soldIn, moneyIn, scheduleIn, amountIn}
 use Rattle.duties.proofs.Steps.{Hour, number-none, list-possible, list-cheapest, list-balanced, demand-generated, list-shares, list-buyers, list-sellers, list-money}
-use Rattle.duties.proofs.Stages.{number-tells, refused-leaves, ten-tells, the-hour}
+use Rattle.duties.proofs.Stages.{number-known, number-tells, refused-leaves, ten-tells, the-hour}
 
 -- For one string of bytes and the same lists at entry there is one outcome.
-pub one-outcome : (bytes : List ℕ) (before x y : Lent) (q r : Summary) → Settled bytes before x q → Settled bytes before y r
-    → (q ≡ r) × (x .figures ≡ y .figures) × (x .money ≡ y .money) × (x .schedule ≡ y .schedule) × (x .amounts ≡ y .amounts)
-one-outcome bytes before x y q r h k = (
-  h .answered ∙ sym (k .answered),
-  filled-unique 0 _ _ _ _ _ (h .figures) (k .figures),
-  filled-unique (pos 0) _ _ _ _ _ (h .money) (k .money),
-  filled-unique 0 _ _ _ _ _ (h .schedule) (k .schedule),
-  filled-unique 0 _ _ _ _ _ (h .amounts) (k .amounts),
-)
+pub one-outcome : (bytes : List ℕ) (before x y : Lent) (q r : Summary)
+    → Settled bytes before x q
+    → Settled bytes before y r
+    → (q ≡ r) × (x ≡ y)
+one-outcome = settled-unique
 
 module _ (bytes : List ℕ) (before after : Lent) (r : Summary) (done : Settled bytes before after r) where
+  -- The number returned is 0, or one of the fixed list: 1 to 11.
+  pub number-listed : (r .number ≡ 0) ⊎ ((1 ≤ r .number) × (r .number ≤ 11))
+  number-listed = number-known bytes done
+
   -- The bytes pass refusals 1 to 9 exactly if the number returned is 0 or above 9.
   pub passes-exactly : ((r .number ≡ 0) ⊎ (9 < r .number)) ↔ Passes bytes
   passes-exactly = number-tells bytes done
@@ -75,11 +75,13 @@ module _ (bytes : List ℕ) (before after : Lent) (r : Summary) (done : Settled 
       shares-are-losses = list-shares hour
 
       -- The amounts contracted, summed by buyers and by sellers, are equal:
-      pub buyers-are-sellers : sum (agentsOf bytes) (λ a. pick (isRetailer bytes a) (contractedIn after a)) ≡ sum (agentsOf bytes) (λ a. pick (isGenerator bytes a) (contractedIn after a))
+      pub buyers-are-sellers : sum (agentsOf bytes) (λ a. pick (retailerIn bytes a) (contractedIn after a))
+          ≡ sum (agentsOf bytes) (λ a. pick (generatorIn bytes a) (contractedIn after a))
       buyers-are-sellers = list-buyers hour ∙ sym (list-sellers hour)
 
       -- both are the sum of the amounts in the lent list.
-      pub buyers-are-amounts : sum (agentsOf bytes) (λ a. pick (isRetailer bytes a) (contractedIn after a)) ≡ sum (contractsOf bytes) (amountIn after)
+      pub buyers-are-amounts : sum (agentsOf bytes) (λ a. pick (retailerIn bytes a) (contractedIn after a))
+          ≡ sum (contractsOf bytes) (amountIn after)
       buyers-are-amounts = list-buyers hour
 
       -- The money over all agents sums to 0.

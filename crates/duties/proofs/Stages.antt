@@ -20,14 +20,23 @@ use Rattle.hour.proofs.Verdicts.{cover-fine, cover-10, room-fine}
 use Rattle.hour.proofs.Balance.{refused-exactly}
 use Rattle.settle.specs.Settled.{verdictOf, Settled}
 use Rattle.duties.specs.Result.{plantsOf, PossibleFor, Passes, Untouched}
-use Rattle.columns.proofs.Numbers.{read-between, balance-between, cover-between, room-between, inOrder, early-passed, late-number, not-ten}
+use Rattle.columns.proofs.Numbers.{read-between, balance-between, cover-between, room-between, inOrder, listed, early-passed, late-number, not-ten}
 use Rattle.duties.proofs.Steps.{verdict-is, number-is, Hour}
 
 module _ (bytes : List ℕ) {before after : Lent} {r : Summary} (done : Settled bytes before after r) where
+  pub number-known : (r .number ≡ 0) ⊎ ((1 ≤ r .number) × (r .number ≤ 11))
+  number-known =
+      rw (number-is bytes before after r done)
+      (listed (readVerdict bytes) (balanceVerdict (hourOf bytes)) (coverVerdict (hourOf bytes))
+      (roomVerdict (hourOf bytes) before)
+      (read-between bytes) (balance-between (hourOf bytes)) (cover-between (hourOf bytes))
+      (room-between (hourOf bytes) before))
+
   number-passes : (r .number ≡ 0) ⊎ (9 < r .number) → Passes bytes
   number-passes h =
       let (p, b) =
-      early-passed (readVerdict bytes) (balanceVerdict (hourOf bytes)) (coverVerdict (hourOf bytes)) (roomVerdict (hourOf bytes) before)
+      early-passed (readVerdict bytes) (balanceVerdict (hourOf bytes)) (coverVerdict (hourOf bytes))
+      (roomVerdict (hourOf bytes) before)
       (read-between bytes) (balance-between (hourOf bytes))
       (rw (number-is bytes before after r done) at h) in
       record { read = p; balance = b }
@@ -35,7 +44,8 @@ module _ (bytes : List ℕ) {before after : Lent} {r : Summary} (done : Settled 
   passes-number : Passes bytes → (r .number ≡ 0) ⊎ (9 < r .number)
   passes-number p =
       rw (number-is bytes before after r done, p .read, p .balance)
-      (late-number (coverVerdict (hourOf bytes)) (roomVerdict (hourOf bytes) before) (cover-between (hourOf bytes)) (room-between (hourOf bytes) before))
+      (late-number (coverVerdict (hourOf bytes)) (roomVerdict (hourOf bytes) before) (cover-between (hourOf bytes))
+      (room-between (hourOf bytes) before))
 
   pub number-tells : ((r .number ≡ 0) ⊎ (9 < r .number)) ↔ Passes bytes
   number-tells = (number-passes, passes-number)
@@ -59,7 +69,8 @@ module _ (bytes : List ℕ) {before after : Lent} {r : Summary} (done : Settled 
           }
 
   module _ (passes : Passes bytes) where
-    late : r .number ≡ numberOf (inOrder Verdict.Fine Verdict.Fine (coverVerdict (hourOf bytes)) (roomVerdict (hourOf bytes) before))
+    late : r .number ≡ numberOf
+        (inOrder Verdict.Fine Verdict.Fine (coverVerdict (hourOf bytes)) (roomVerdict (hourOf bytes) before))
     late = rw (passes .read, passes .balance) at (number-is bytes before after r done)
 
     -- the plants fall short, and 10 is returned; or they do not, and another number is
@@ -72,9 +83,14 @@ module _ (bytes : List ℕ) {before after : Lent} {r : Summary} (done : Settled 
         (sym (rw (cover-fine (hourOf bytes) l) at late) ∙ e)
 
     pub ten-tells : (r .number ≡ 10) ↔ ((q : ℕ → ℕ) → PossibleFor bytes (hourDemand (hourOf bytes)) q → ⊥)
-    ten-tells = (λ e. refused-exactly (hourOf bytes) .0 (short e (decLt _ _)), λ h. late ∙ rw (refused-exactly (hourOf bytes) .1 h))
+    ten-tells = (
+      λ e. refused-exactly (hourOf bytes) .0 (short e (decLt _ _)),
+      λ h. late ∙ rw (refused-exactly (hourOf bytes) .1 h),
+    )
       where
-        short : r .number ≡ 10 → Dec (sum (plantsOf bytes) (at (hourOf bytes .available)) < hourDemand (hourOf bytes)) → coverVerdict (hourOf bytes) ≡ refused uncovered 0
+        short : r .number ≡ 10
+            → Dec (sum (plantsOf bytes) (at (hourOf bytes .available)) < hourDemand (hourOf bytes))
+            → coverVerdict (hourOf bytes) ≡ refused uncovered 0
         short e (yes l) = cover-10 (hourOf bytes) l
         short e (no l) = absurd (other (omega arith) e)
 
@@ -82,7 +98,8 @@ module _ (bytes : List ℕ) {before after : Lent} {r : Summary} (done : Settled 
       covers : coverVerdict (hourOf bytes) ≡ Verdict.Fine
       covers = go (decLt _ _)
         where
-          go : Dec (sum (plantsOf bytes) (at (hourOf bytes .available)) < hourDemand (hourOf bytes)) → coverVerdict (hourOf bytes) ≡ Verdict.Fine
+          go : Dec (sum (plantsOf bytes) (at (hourOf bytes .available)) < hourDemand (hourOf bytes))
+              → coverVerdict (hourOf bytes) ≡ Verdict.Fine
           go (yes l) = absurd (otherwise (ten l))
           go (no l) = cover-fine (hourOf bytes) (omega arith)
 
@@ -92,5 +109,11 @@ module _ (bytes : List ℕ) {before after : Lent} {r : Summary} (done : Settled 
             done = done;
             passes = passes;
             cover = covers;
-            fine = verdict-is bytes before ∙ rw (passes .read, passes .balance, covers, room-fine (hourOf bytes) before room);
+            fine =
+                verdict-is bytes before ∙ rw (
+                  passes .read,
+                  passes .balance,
+                  covers,
+                  room-fine (hourOf bytes) before room,
+                );
           }

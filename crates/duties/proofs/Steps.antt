@@ -16,7 +16,7 @@ use Rattle.columns.specs.Columns.{hourOf}
 use Rattle.hour.specs.Sheet.{Sheet}
 use Rattle.hour.specs.Sound.{Sound}
 use Rattle.hour.specs.Balance.{losses, lossShare, hourDemand}
-use Rattle.hour.specs.Lines.{scheduled, amount, contracted, bought, sold, money, figure}
+use Rattle.hour.specs.Lines.{scheduled, amount, contracted, bought, sold, money, cellsPerAgent, figure}
 use Rattle.hour.specs.Signed.{signedSum}
 use Rattle.hour.specs.Answer.{Lent, balanceVerdict, coverVerdict, roomVerdict, hourVerdict, summaryOf}
 use Rattle.hour.specs.declared.Summary.{Summary}
@@ -27,7 +27,7 @@ use Rattle.hour.proofs.Demand.{loss-shares, demand-delivered, generators-metere
 use Rattle.hour.proofs.Balance.{schedule-possible, schedule-cheapest, contracted-buyers, contracted-sellers, bought-sold, money-none}
 use Rattle.columns.proofs.Columns.{sound}
 use Rattle.settle.specs.Settled.{verdictOf, Settled}
-use Rattle.duties.specs.Result.{agentsOf, plantsOf, contractsOf, isRetailer, isGenerator, generatedIn, PossibleFor, costOf, Passes, shareIn, contractedIn, boughtIn, soldIn, moneyIn, scheduleIn, amountIn}
+use Rattle.duties.specs.Result.{agentsOf, plantsOf, contractsOf, retailerIn, generatorIn, generatedIn, PossibleFor, costOf, Passes, shareIn, contractedIn, boughtIn, soldIn, moneyIn, scheduleIn, amountIn}
 use Rattle.refusals.specs.Refusals.{numberOf}
 use Rattle.columns.proofs.Numbers.{inOrder}
 
@@ -41,13 +41,15 @@ unfolding readOf hourOf
 passes-sound bytes p = sound bytes (countsOf bytes) (rw (p .read))
 
 pub verdict-is : (bytes : List ℕ) (lent : Lent)
-    → verdictOf bytes lent ≡ inOrder (readVerdict bytes) (balanceVerdict (hourOf bytes)) (coverVerdict (hourOf bytes)) (roomVerdict (hourOf bytes) lent)
+    → verdictOf bytes lent ≡ inOrder (readVerdict bytes) (balanceVerdict (hourOf bytes)) (coverVerdict (hourOf bytes))
+    (roomVerdict (hourOf bytes) lent)
 unfolding verdictOf hourVerdict
 verdict-is bytes lent = refl
 
 -- the number returned is that of the first refusal
 pub number-is : (bytes : List ℕ) (before after : Lent) (r : Summary) → Settled bytes before after r
-    → r .number ≡ numberOf (inOrder (readVerdict bytes) (balanceVerdict (hourOf bytes)) (coverVerdict (hourOf bytes)) (roomVerdict (hourOf bytes) before))
+    → r .number ≡ numberOf (inOrder (readVerdict bytes) (balanceVerdict (hourOf bytes)) (coverVerdict (hourOf bytes))
+    (roomVerdict (hourOf bytes) before))
 number-is bytes before after r done =
     ap (λ (x : Summary). x .number) (done .answered) ∙ summary-number (verdictOf bytes before) (hourOf bytes)
     ∙ ap numberOf (verdict-is bytes before)
@@ -73,20 +75,20 @@ module _ {bytes : List ℕ} {before after : Lent} {r : Summary} (h : Hour bytes 
   losses-is = ap (λ (x : Summary). x .losses) summary-is
 
   -- ---- the lists, cell by cell
-  figure-at : (k : ℕ) → k < 6 * agentsOf bytes → at (after .figures) k ≡ figure (hourOf bytes) k
+  figure-at : (k : ℕ) → k < cellsPerAgent * agentsOf bytes → at (after .figures) k ≡ figure (hourOf bytes) k
   figure-at k l = h .done .figures .done k (rw (h .fine) l)
 
   share-at : (a : ℕ) → a < agentsOf bytes → shareIn after a ≡ lossShare (hourOf bytes) a
-  share-at a l = figure-at (6 * a) (omega arith) ∙ figure-share (hourOf bytes) a
+  share-at a l = figure-at (cellsPerAgent * a) (omega arith) ∙ figure-share (hourOf bytes) a
 
   contracted-at : (a : ℕ) → a < agentsOf bytes → contractedIn after a ≡ contracted (hourOf bytes) a
-  contracted-at a l = figure-at (6 * a + 3) (omega arith) ∙ figure-contracted (hourOf bytes) a
+  contracted-at a l = figure-at (cellsPerAgent * a + 3) (omega arith) ∙ figure-contracted (hourOf bytes) a
 
   bought-at : (a : ℕ) → a < agentsOf bytes → boughtIn after a ≡ bought (hourOf bytes) a
-  bought-at a l = figure-at (6 * a + 4) (omega arith) ∙ figure-bought (hourOf bytes) a
+  bought-at a l = figure-at (cellsPerAgent * a + 4) (omega arith) ∙ figure-bought (hourOf bytes) a
 
   sold-at : (a : ℕ) → a < agentsOf bytes → soldIn after a ≡ sold (hourOf bytes) a
-  sold-at a l = figure-at (6 * a + 5) (omega arith) ∙ figure-sold (hourOf bytes) a
+  sold-at a l = figure-at (cellsPerAgent * a + 5) (omega arith) ∙ figure-sold (hourOf bytes) a
 
   money-at : (a : ℕ) → a < agentsOf bytes → moneyIn after a ≡ money (hourOf bytes) a
   money-at a l = h .done .money .done a (rw (h .fine) l)
@@ -110,7 +112,9 @@ module _ {bytes : List ℕ} {before after : Lent} {r : Summary} (h : Hour bytes 
       record {
         enough = λ i l. zero-le;
         within = λ i l. omega (arith, schedule-at i l, p .within i l);
-        meets = sum-eq (plantsOf bytes) (scheduleIn after) (scheduled (hourOf bytes)) schedule-at ∙ p .meets ∙ sym demand-is;
+        meets =
+            sum-eq (plantsOf bytes) (scheduleIn after) (scheduled (hourOf bytes)) schedule-at ∙ p .meets
+            ∙ sym demand-is;
       }
 
   pub list-cheapest : (q : ℕ → ℕ) → PossibleFor bytes (r .demand) q → costOf bytes (scheduleIn after) ≤ costOf bytes q
@@ -119,8 +123,10 @@ module _ {bytes : List ℕ} {before after : Lent} {r : Summary} (h : Hour bytes 
       let offer = at (hourOf bytes .offers) in
       omega (
         arith,
-        sum-eq (plantsOf bytes) (λ i. offer i * scheduleIn after i) (λ i. offer i * scheduled (hourOf bytes) i) (λ i l. ap (λ (x : ℕ). offer i * x) (schedule-at i l)),
-        schedule-cheapest (hourOf bytes) (h .cover) q (record { enough = p .enough; within = p .within; meets = p .meets ∙ demand-is }),
+        sum-eq (plantsOf bytes) (λ i. offer i * scheduleIn after i) (λ i. offer i * scheduled (hourOf bytes) i)
+            (λ i l. ap (λ (x : ℕ). offer i * x) (schedule-at i l)),
+        schedule-cheapest (hourOf bytes) (h .cover) q
+            (record { enough = p .enough; within = p .within; meets = p .meets ∙ demand-is }),
       )
 
   pub list-balanced : sum (agentsOf bytes) (boughtIn after) ≡ sum (agentsOf bytes) (soldIn after)
@@ -130,7 +136,8 @@ module _ {bytes : List ℕ} {before after : Lent} {r : Summary} (h : Hour bytes 
       ∙ sym (sum-eq (agentsOf bytes) (soldIn after) (sold (hourOf bytes)) sold-at)
 
   pub demand-generated : r .demand ≡ generatedIn bytes
-  demand-generated = demand-is ∙ demand-delivered (hourOf bytes) sheet-balanced ∙ generators-metered (hourOf bytes) sheet-sound
+  demand-generated =
+      demand-is ∙ demand-delivered (hourOf bytes) sheet-balanced ∙ generators-metered (hourOf bytes) sheet-sound
 
   pub list-shares : sum (agentsOf bytes) (shareIn after) ≡ r .losses
   list-shares =
@@ -139,18 +146,23 @@ module _ {bytes : List ℕ} {before after : Lent} {r : Summary} (h : Hour bytes 
       ∙ sym losses-is
 
   -- over agents of one kind
-  list-contracted : (kind : ℕ → Bool) → sum (agentsOf bytes) (λ a. pick (kind a) (contracted (hourOf bytes) a)) ≡ sum (contractsOf bytes) (amount (hourOf bytes))
+  list-contracted : (kind : ℕ → Bool)
+      → sum (agentsOf bytes) (λ a. pick (kind a) (contracted (hourOf bytes) a))
+      ≡ sum (contractsOf bytes) (amount (hourOf bytes))
       → sum (agentsOf bytes) (λ a. pick (kind a) (contractedIn after a)) ≡ sum (contractsOf bytes) (amountIn after)
   list-contracted kind e =
-      sum-eq (agentsOf bytes) (λ a. pick (kind a) (contractedIn after a)) (λ a. pick (kind a) (contracted (hourOf bytes) a)) (λ a l. ap (pick (kind a)) (contracted-at a l))
+      sum-eq (agentsOf bytes) (λ a. pick (kind a) (contractedIn after a))
+      (λ a. pick (kind a) (contracted (hourOf bytes) a)) (λ a l. ap (pick (kind a)) (contracted-at a l))
       ∙ e
       ∙ sym (sum-eq (contractsOf bytes) (amountIn after) (amount (hourOf bytes)) amount-at)
 
-  pub list-buyers : sum (agentsOf bytes) (λ a. pick (isRetailer bytes a) (contractedIn after a)) ≡ sum (contractsOf bytes) (amountIn after)
-  list-buyers = list-contracted (isRetailer bytes) (contracted-buyers (hourOf bytes) sheet-sound)
+  pub list-buyers : sum (agentsOf bytes) (λ a. pick (retailerIn bytes a) (contractedIn after a))
+      ≡ sum (contractsOf bytes) (amountIn after)
+  list-buyers = list-contracted (retailerIn bytes) (contracted-buyers (hourOf bytes) sheet-sound)
 
-  pub list-sellers : sum (agentsOf bytes) (λ a. pick (isGenerator bytes a) (contractedIn after a)) ≡ sum (contractsOf bytes) (amountIn after)
-  list-sellers = list-contracted (isGenerator bytes) (contracted-sellers (hourOf bytes) sheet-sound)
+  pub list-sellers : sum (agentsOf bytes) (λ a. pick (generatorIn bytes a) (contractedIn after a))
+      ≡ sum (contractsOf bytes) (amountIn after)
+  list-sellers = list-contracted (generatorIn bytes) (contracted-sellers (hourOf bytes) sheet-sound)
 
   pub list-money : signedSum (agentsOf bytes) (moneyIn after) ≡ pos 0
   list-money =

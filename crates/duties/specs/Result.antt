@@ -12,6 +12,7 @@ use Rattle.sheet.specs.Reading.{readVerdict}
 use Rattle.columns.specs.Columns.{hourOf}
 use Rattle.hour.specs.Sheet.{agents, plants, contracts, retails}
 use Rattle.hour.specs.Balance.{generated}
+use Rattle.hour.specs.Lines.{cellsPerAgent}
 use Rattle.hour.specs.Answer.{Lent, balanceVerdict}
 use Rattle.hour.specs.declared.Summary.{Summary}
 
@@ -25,11 +26,11 @@ plantsOf bytes = plants (hourOf bytes)
 abbrev pub contractsOf : List ℕ → ℕ
 contractsOf bytes = contracts (hourOf bytes)
 
-abbrev pub isRetailer : List ℕ → ℕ → Bool
-isRetailer bytes a = retails (hourOf bytes) a
+abbrev pub retailerIn : List ℕ → ℕ → Bool
+retailerIn bytes a = retails (hourOf bytes) a
 
-abbrev pub isGenerator : List ℕ → ℕ → Bool
-isGenerator bytes a = not (retails (hourOf bytes) a)
+abbrev pub generatorIn : List ℕ → ℕ → Bool
+generatorIn bytes a = not (retails (hourOf bytes) a)
 
 -- the sum of generator exports, over the boundary rows of generators
 abbrev pub generatedIn : List ℕ → ℕ
@@ -50,16 +51,16 @@ pub record Passes (bytes : List ℕ) : Type 0 where
 
 -- ---- the lent lists by agent, plant and contract
 abbrev pub shareIn : Lent → ℕ → ℕ
-shareIn l a = at (l .figures) (6 * a)
+shareIn l a = at (l .figures) (cellsPerAgent * a)
 
 abbrev pub contractedIn : Lent → ℕ → ℕ
-contractedIn l a = at (l .figures) (6 * a + 3)
+contractedIn l a = at (l .figures) (cellsPerAgent * a + 3)
 
 abbrev pub boughtIn : Lent → ℕ → ℕ
-boughtIn l a = at (l .figures) (6 * a + 4)
+boughtIn l a = at (l .figures) (cellsPerAgent * a + 4)
 
 abbrev pub soldIn : Lent → ℕ → ℕ
-soldIn l a = at (l .figures) (6 * a + 5)
+soldIn l a = at (l .figures) (cellsPerAgent * a + 5)
 
 abbrev pub moneyIn : Lent → ℕ → ℤ
 moneyIn l a = getD (l .money) a (pos 0)

@@ -18,7 +18,7 @@ use Rattle.merit.proofs.LeastCost.{schedule-least, none-possible}
 use Rattle.hour.specs.Sheet.{Sheet, agents, plants, contracts, retails}
 use Rattle.hour.specs.Sound.{Sound}
 use Rattle.hour.specs.Balance.{imported, exported, consumption, ownImport, commercial, hourDemand}
-use Rattle.hour.specs.Lines.{scheduled, price, amount, own, contracted, bought, sold, money}
+use Rattle.hour.specs.Lines.{scheduled, bolsaPrice, amount, own, contracted, bought, sold, money}
 use Rattle.hour.specs.Signed.{signedSum}
 use Rattle.hour.specs.Answer.{coverVerdict}
 use Rattle.refusals.proofs.Fine.{not-fine}
@@ -34,7 +34,8 @@ module _ (s : Sheet) where
 
   -- refusal 10 is given exactly if no schedule is possible
   pub refused-exactly : (coverVerdict s ≡ refused uncovered 0) ↔ ((q : ℕ → ℕ) → CanDeliver q → ⊥)
-  refused-exactly = (λ e. none-possible a n d .0 (short e (decLt (sum n a) d)), λ h. cover-10 s (none-possible a n d .1 h))
+  refused-exactly =
+      (λ e. none-possible a n d .0 (short e (decLt (sum n a) d)), λ h. cover-10 s (none-possible a n d .1 h))
     where
       a : ℕ → ℕ
       a = at (s .available)
@@ -53,15 +54,23 @@ module _ (s : Sheet) where
     -- the schedule is possible
     pub schedule-possible : CanDeliver (scheduled s)
     unfolding scheduled
-    schedule-possible = schedule-least (at (s .offers)) (at (s .available)) (plants s) (hourDemand s) (covered s fine) .0
+    schedule-possible =
+        schedule-least (at (s .offers)) (at (s .available)) (plants s) (hourDemand s) (covered s fine) .0
 
     -- no possible schedule costs less at the offer prices
-    pub schedule-cheapest : (q : ℕ → ℕ) → CanDeliver q → cost (at (s .offers)) (plants s) (scheduled s) ≤ cost (at (s .offers)) (plants s) q
+    pub schedule-cheapest : (q : ℕ → ℕ)
+        → CanDeliver q
+        → cost (at (s .offers)) (plants s) (scheduled s) ≤ cost (at (s .offers)) (plants s) q
     unfolding scheduled
-    schedule-cheapest = schedule-least (at (s .offers)) (at (s .available)) (plants s) (hourDemand s) (covered s fine) .1
+    schedule-cheapest =
+        schedule-least (at (s .offers)) (at (s .available)) (plants s) (hourDemand s) (covered s fine) .1
 
 -- ---- rows of one kind of agent: an agent of the other kind has none
-keyed-kind : (t : ℕ → Bool) (key v : ℕ → ℕ) (m : ℕ) (b : Bool) → ((j : ℕ) → j < m → t (key j) ≡ b) → (a : ℕ) → t a ≡ not b → keyed key v m a ≡ 0
+keyed-kind : (t : ℕ → Bool) (key v : ℕ → ℕ) (m : ℕ) (b : Bool)
+    → ((j : ℕ) → j < m → t (key j) ≡ b)
+    → (a : ℕ)
+    → t a ≡ not b
+    → keyed key v m a ≡ 0
 keyed-kind t key v m true h a e = keyed-absent key v m a (λ j l q. false≢true (sym e ∙ (sym (ap t q) ∙ h j l)))
 keyed-kind t key v m false h a e = keyed-absent key v m a (λ j l q. false≢true (sym (sym (ap t q) ∙ h j l) ∙ e))
 
@@ -78,17 +87,22 @@ module _ (s : Sheet) where
 
 module _ (s : Sheet) (ok : Sound s) where
   retailer-made : (a : ℕ) → retails s a ≡ true → made s a ≡ 0
-  retailer-made a e = keyed-kind (retails s) (at (s .holders)) (scheduled s) (plants s) false (λ i l. ok .plant i l .generator) a e
+  retailer-made a e =
+      keyed-kind (retails s) (at (s .holders)) (scheduled s) (plants s) false (λ i l. ok .plant i l .generator) a e
 
   retailer-sells : (a : ℕ) → retails s a ≡ true → sells s a ≡ 0
-  retailer-sells a e = keyed-kind (retails s) (at (s .sellers)) (amount s) (contracts s) false (λ j l. ok .contract j l .generator) a e
+  retailer-sells a e =
+      keyed-kind (retails s) (at (s .sellers)) (amount s) (contracts s) false (λ j l. ok .contract j l .generator) a e
 
   generator-buys : (a : ℕ) → retails s a ≡ false → buys s a ≡ 0
-  generator-buys a e = keyed-kind (retails s) (at (s .deals .buyers)) (amount s) (contracts s) true (λ j l. ok .contract j l .retailer) a e
+  generator-buys a e =
+      keyed-kind (retails s) (at (s .deals .buyers)) (amount s) (contracts s) true (λ j l. ok .contract j l .retailer)
+      a e
 
   -- nobody does both: what an agent bought and what it sold under contract, together, are what it holds
   pub contracted-both : (a : ℕ)
-      → keyed (at (s .deals .buyers)) (amount s) (contracts s) a + keyed (at (s .sellers)) (amount s) (contracts s) a ≡ contracted s a
+      → keyed (at (s .deals .buyers)) (amount s) (contracts s) a + keyed (at (s .sellers)) (amount s) (contracts s) a
+      ≡ contracted s a
   unfolding contracted
   contracted-both a = go (retails s a) refl
     where
@@ -100,16 +114,19 @@ module _ (s : Sheet) (ok : Sound s) where
   all-made = keyed-total (at (s .holders)) (scheduled s) (agents s) (plants s) (λ i l. ok .plant i l .there)
 
   all-buys : sum (agents s) (buys s) ≡ sum (contracts s) (amount s)
-  all-buys = keyed-total (at (s .deals .buyers)) (amount s) (agents s) (contracts s) (λ j l. ok .contract j l .buyerThere)
+  all-buys =
+      keyed-total (at (s .deals .buyers)) (amount s) (agents s) (contracts s) (λ j l. ok .contract j l .buyerThere)
 
   all-sells : sum (agents s) (sells s) ≡ sum (contracts s) (amount s)
   all-sells = keyed-total (at (s .sellers)) (amount s) (agents s) (contracts s) (λ j l. ok .contract j l .sellerThere)
 
   -- ---- the amounts contracted, summed by buyers and by sellers
-  pub contracted-sellers : sum (agents s) (λ a. pick (not (retails s a)) (contracted s a)) ≡ sum (contracts s) (amount s)
+  pub contracted-sellers : sum (agents s) (λ a. pick (not (retails s a)) (contracted s a))
+      ≡ sum (contracts s) (amount s)
   unfolding contracted pick
   contracted-sellers =
-      sum-eq (agents s) (λ a. pick (not (retails s a)) (contracted s a)) (sells s) (λ a l. go a (retails s a) refl) ∙ all-sells
+      sum-eq (agents s) (λ a. pick (not (retails s a)) (contracted s a)) (sells s) (λ a l. go a (retails s a) refl)
+      ∙ all-sells
     where
       go : (a : ℕ) (t : Bool) → retails s a ≡ t → pick (not t) (cond t (buys s a) (sells s a)) ≡ sells s a
       go a true e = sym (retailer-sells a e)
@@ -131,7 +148,8 @@ module _ (s : Sheet) (ok : Sound s) where
 
   generator-demand : (a : ℕ) → a < agents s → retails s a ≡ false → commercial s a ≡ 0
   unfolding commercial consumption
-  generator-demand a l e = omega (arith, pick-false (retails s a) (imported s a - exported s a) e, generator-share s a l e)
+  generator-demand a l e =
+      omega (arith, pick-false (retails s a) (imported s a - exported s a) e, generator-share s a l e)
 
   -- nobody has both: an agent's commercial demand and what its plants are scheduled to deliver, together, are its own energy
   pub own-both : (a : ℕ) → a < agents s → keyed (at (s .holders)) (scheduled s) (plants s) a + commercial s a ≡ own s a
@@ -143,7 +161,9 @@ module _ (s : Sheet) (ok : Sound s) where
       go false e = omega (arith, generator-demand a l e)
 
   -- one agent: what it buys and what others owe to it, against what it sells and what it owes
-  even : (a : ℕ) → a < agents s → bought s a + (made s a + buys s a) ≡ sold s a + (commercial s a + ownImport s a + sells s a)
+  even : (a : ℕ)
+      → a < agents s
+      → bought s a + (made s a + buys s a) ≡ sold s a + (commercial s a + ownImport s a + sells s a)
   unfolding bought sold own contracted
   even a l = go (retails s a) refl
     where
@@ -154,7 +174,8 @@ module _ (s : Sheet) (ok : Sound s) where
       held t = cond t (buys s a) (sells s a)
 
       go : (t : Bool) → retails s a ≡ t
-          → cond t (own-of t - held t) (held t - own-of t + ownImport s a) + (made s a + buys s a) ≡ cond t (held t - own-of t) (own-of t - held t) + (commercial s a + ownImport s a + sells s a)
+          → cond t (own-of t - held t) (held t - own-of t + ownImport s a) + (made s a + buys s a)
+          ≡ cond t (held t - own-of t) (own-of t - held t) + (commercial s a + ownImport s a + sells s a)
       go true e = omega (arith, retailer-made a e, retailer-sells a e, retailer-import a e)
       go false e = omega (arith, generator-buys a e, generator-demand a l e)
 
@@ -170,7 +191,8 @@ module _ (s : Sheet) (ok : Sound s) where
         let n = agents s in
         omega (
           arith,
-          sum-eq n (λ a. bought s a + (made s a + buys s a)) (λ a. sold s a + (commercial s a + ownImport s a + sells s a)) even,
+          sum-eq n (λ a. bought s a + (made s a + buys s a))
+              (λ a. sold s a + (commercial s a + ownImport s a + sells s a)) even,
           sum-add n (bought s) (λ a. made s a + buys s a),
           sum-add n (sold s) (λ a. commercial s a + ownImport s a + sells s a),
           sum-add n (made s) (buys s),
@@ -185,5 +207,5 @@ module _ (s : Sheet) (ok : Sound s) where
     pub money-none : signedSum (agents s) (money s) ≡ pos 0
     unfolding money
     money-none =
-        money-sum (agents s) (sold s) (bought s) (price s)
-        ∙ money-even (sum (agents s) (sold s)) (sum (agents s) (bought s)) (price s) (sym bought-sold)
+        money-sum (agents s) (sold s) (bought s) (bolsaPrice s)
+        ∙ money-even (sum (agents s) (sold s)) (sum (agents s) (bought s)) (bolsaPrice s) (sym bought-sold)

@@ -4,7 +4,7 @@ use native.Mathlib.Omega.{arith}
 use native.Mathlib.Nat.{mul-le-mul}
 use mathlib.Core.Bool.{Bool, true, false, not}
 use Rattle.rows.specs.Limits.{mostEnergy, mostFactor, mostPrice}
-use Rattle.sums.specs.Sums.{sum, pick, keyed}
+use Rattle.sums.specs.Sums.{pick, keyed}
 use Rattle.sums.specs.Lists.{at}
 use Rattle.sums.proofs.Sums.{sum-le, sum-most}
 use Rattle.sums.proofs.Picks.{pick-le}
@@ -13,13 +13,14 @@ use Rattle.merit.proofs.Schedule.{schedule-within}
 use Rattle.merit.proofs.Price.{price-most}
 use Rattle.hour.specs.Sheet.{Sheet, agents, boundaries, plants, retails}
 use Rattle.hour.specs.Sound.{Sound}
-use Rattle.hour.specs.Balance.{referred, imported, exported, consumption, consumed, ownImport, entering, leaving, losses, hourDemand}
-use Rattle.hour.specs.Lines.{scheduled, price}
+use Rattle.hour.specs.Balance.{referred, imported, exported, consumption, consumed, ownImport, entering, leaving, hourDemand}
+use Rattle.hour.specs.Lines.{scheduled, bolsaPrice}
 
 -- a reading within its limit, at a factor within its limit
 pub referred-le : (x f : ℕ) → x ≤ mostEnergy → f ≤ mostFactor → referred x f ≤ 6000000
 unfolding referred
-referred-le x f h k = let p : x * (10000 + f) ≤ 4000000 * 15000 = mul-le-mul {n₂ = 4000000} {m₂ = 15000} h (omega arith) in omega arith
+referred-le x f h k =
+    let p : x * (10000 + f) ≤ 4000000 * 15000 = mul-le-mul {n₂ = 4000000} {m₂ = 15000} h (omega arith) in omega arith
 
 module _ (s : Sheet) where
   pub consumption-le : (a : ℕ) → consumption s a ≤ imported s a
@@ -52,18 +53,21 @@ module _ (s : Sheet) where
 
     pub imported-le : (a : ℕ) → imported s a ≤ 1536000000
     unfolding imported
-    imported-le a = omega (arith, keyed-most (at (s .owners)) (λ j. referred (at (s .imports) j) (at (s .factors) j)) (boundaries s) a 6000000 row-import-le, ok .few .boundaries)
-
-    pub exported-le : (a : ℕ) → exported s a ≤ 1536000000
-    unfolding exported
-    exported-le a = omega (arith, keyed-most (at (s .owners)) (λ j. referred (at (s .exports) j) (at (s .factors) j)) (boundaries s) a 6000000 row-export-le, ok .few .boundaries)
+    imported-le a =
+        omega (
+          arith,
+          keyed-most (at (s .owners)) (λ j. referred (at (s .imports) j) (at (s .factors) j)) (boundaries s) a 6000000
+              row-import-le,
+          ok .few .boundaries,
+        )
 
     pub leaving-le : leaving s ≤ 1536000000
     unfolding leaving imported
     leaving-le =
         omega (
           arith,
-          keyed-total (at (s .owners)) (λ j. referred (at (s .imports) j) (at (s .factors) j)) (agents s) (boundaries s) (λ j l. ok .boundary j l .there),
+          keyed-total (at (s .owners)) (λ j. referred (at (s .imports) j) (at (s .factors) j)) (agents s)
+              (boundaries s) (λ j l. ok .boundary j l .there),
           sum-most (boundaries s) 6000000 (λ j. referred (at (s .imports) j) (at (s .factors) j)) row-import-le,
           ok .few .boundaries,
         )
@@ -73,14 +77,11 @@ module _ (s : Sheet) where
     entering-le =
         omega (
           arith,
-          keyed-total (at (s .owners)) (λ j. referred (at (s .exports) j) (at (s .factors) j)) (agents s) (boundaries s) (λ j l. ok .boundary j l .there),
+          keyed-total (at (s .owners)) (λ j. referred (at (s .exports) j) (at (s .factors) j)) (agents s)
+              (boundaries s) (λ j l. ok .boundary j l .there),
           sum-most (boundaries s) 6000000 (λ j. referred (at (s .exports) j) (at (s .factors) j)) row-export-le,
           ok .few .boundaries,
         )
-
-    pub losses-le : losses s ≤ 1536000000
-    unfolding losses
-    losses-le = omega (arith, entering-le)
 
     pub consumed-most : consumed s ≤ 1536000000
     consumed-most = omega (arith, consumed-le, leaving-le)
@@ -88,14 +89,18 @@ module _ (s : Sheet) where
     -- ---- plants
     pub scheduled-le : (i : ℕ) → i < plants s → scheduled s i ≤ mostEnergy
     unfolding scheduled
-    scheduled-le i l = omega (arith, schedule-within (at (s .offers)) (at (s .available)) (plants s) (hourDemand s) i, ok .plant i l .available)
+    scheduled-le i l =
+        omega (
+          arith,
+          schedule-within (at (s .offers)) (at (s .available)) (plants s) (hourDemand s) i,
+          ok .plant i l .available,
+        )
 
     pub made-le : (a : ℕ) → keyed (at (s .holders)) (scheduled s) (plants s) a ≤ 256000000
-    made-le a = omega (arith, keyed-most (at (s .holders)) (scheduled s) (plants s) a mostEnergy scheduled-le, ok .few .plants)
+    made-le a =
+        omega (arith, keyed-most (at (s .holders)) (scheduled s) (plants s) a mostEnergy scheduled-le, ok .few .plants)
 
-    pub available-le : sum (plants s) (at (s .available)) ≤ 256000000
-    available-le = omega (arith, sum-most (plants s) mostEnergy (at (s .available)) (λ i l. ok .plant i l .available), ok .few .plants)
-
-    pub price-le : price s ≤ mostPrice
-    unfolding price
-    price-le = price-most (at (s .offers)) (at (s .flags)) (scheduled s) (plants s) mostPrice (λ i l. ok .plant i l .offer)
+    pub price-le : bolsaPrice s ≤ mostPrice
+    unfolding bolsaPrice
+    price-le =
+        price-most (at (s .offers)) (at (s .flags)) (scheduled s) (plants s) mostPrice (λ i l. ok .plant i l .offer)

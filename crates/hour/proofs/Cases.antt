@@ -1,5 +1,5 @@
--- Document 01, 'Small cases on each side': the cases marked P, 1 to 8, with 10, 11 and an edge, as one statement over a table.
--- Assumes nothing.
+-- Document 01, 'Small cases on each side': the cases marked P, 1 to 8, with 10, 11, sheets that two refusals fit, and an edge, as one
+-- statement over a table. Assumes nothing.
 use Prim.Native.Nat.{ℕ, _*_}
 use mathlib.Core.List.{List, [], _∷_, map}
 use mathlib.Core.Path.{_≡_, refl}
@@ -7,41 +7,41 @@ use lib.IntN.{ℤ, pos, negℤ}
 use lib.ListN.{length}
 use Rattle.sums.specs.Sums.{sum, peak, pick, keyed, stop, first}
 use Rattle.sums.specs.Lists.{total, listTo}
-use Rattle.refusals.specs.Refusals.{orElse}
-use Rattle.refusals.specs.declared.Verdict.{Verdict}
+use Rattle.refusals.specs.Refusals.{numberOf}
 use Rattle.share.specs.Share.{leftOver, goesBefore, rankOf, shareOf}
 use Rattle.merit.specs.Merit.{before, ahead, schedule, hourPrice}
 use Rattle.deals.specs.Deals.{stands, aheadOf, firmAt, restOf, cheaperOf, groupOf, demandedAt, amountAt, amountsOf}
 use Rattle.deals.specs.Hour.{ownTo, ownCount, ownOf, hourAmount}
 use Rattle.hour.specs.Sheet.{Sheet, agents, plants, contracts, retails}
 use Rattle.hour.specs.Balance.{referred, imported, exported, consumption, consumed, ownImport, entering, leaving, losses, consumptions, lossShare, commercial, demands, hourDemand}
-use Rattle.hour.specs.Lines.{scheduled, price, amount, own, contracted, bought, sold, moneyOf, money, cellOf, figure}
-use Rattle.hour.specs.Answer.{firstOver, balanceVerdict, coverVerdict}
+use Rattle.hour.specs.Lines.{scheduled, bolsaPrice, amount, own, contracted, bought, sold, moneyOf, money, cellsPerAgent, cellOf, figure}
+use Rattle.hour.specs.Answer.{Lent, firstOver, balanceVerdict, coverVerdict, roomVerdict, hourVerdict}
 
--- what is asked: a referral, a sharing, or of a sheet its first refusal of 7 to 10 (0 with none), its amounts, what agent a sells,
+-- what is asked: a referral, a sharing, or of a sheet its first refusal of 7 to 11 (0 with none) where each lent list has so many
+-- cells, its amounts, what agent a sells,
 -- its price and schedule, its first line with the agents' figures, its money
 pub data Ask : Type 0 where
   referralOf : (reading factor : ℕ) → Ask
   sharesOf : (amount : ℕ) (weights : List ℕ) → Ask
-  refusalOf : Sheet → Ask
+  refusalOf : (room : ℕ) → Sheet → Ask
   amountsIn : Sheet → Ask
   soldBy : Sheet → ℕ → Ask
   scheduleOf : Sheet → Ask
   linesOf : Sheet → Ask
   moneyIn : Sheet → Ask
 
-abbrev numberOf : Verdict → ℕ
-numberOf Verdict.Fine = 0
-numberOf (Verdict.Refused r) = r .number
+abbrev lists : (room : ℕ) → Lent
+lists n =
+    record { figures = listTo (λ k. 0) n; money = listTo (λ k. pos 0) n; schedule = listTo (λ k. 0) n; amounts = listTo (λ k. 0) n }
 
 unfoldable pub answer : Ask → List ℤ
 answer (referralOf x f) = pos (referred x f) ∷ []
 answer (sharesOf a ws) = listTo (λ i. pos (shareOf a ws i)) (length ws)
-answer (refusalOf s) = pos (numberOf (orElse (balanceVerdict s) (coverVerdict s))) ∷ []
+answer (refusalOf room s) = pos (numberOf (hourVerdict s (lists room))) ∷ []
 answer (amountsIn s) = listTo (λ j. pos (amount s j)) (contracts s)
 answer (soldBy s a) = pos (sold s a) ∷ []
-answer (scheduleOf s) = pos (price s) ∷ listTo (λ i. pos (scheduled s i)) (plants s)
-answer (linesOf s) = pos (price s) ∷ pos (hourDemand s) ∷ pos (losses s) ∷ listTo (λ k. pos (figure s k)) (6 * agents s)
+answer (scheduleOf s) = pos (bolsaPrice s) ∷ listTo (λ i. pos (scheduled s i)) (plants s)
+answer (linesOf s) = pos (bolsaPrice s) ∷ pos (hourDemand s) ∷ pos (losses s) ∷ listTo (λ k. pos (figure s k)) (cellsPerAgent * agents s)
 answer (moneyIn s) = listTo (money s) (agents s)
 
 pub record Case : Type 0 where
@@ -74,6 +74,23 @@ contractsOf d ks ps qs = pairOf d d 0 (0 ∷ []) (1 ∷ []) (d ∷ []) ks ps qs
 
 abbrev plantsOf : ℕ → (flags offers available : List ℕ) → Sheet
 plantsOf d flags offers available = pairOf d d 0 flags offers available [] [] []
+
+-- retailers alone, one boundary row each
+abbrev retailersOf : (takes delivers : List ℕ) → Sheet
+retailersOf takes delivers =
+    record {
+      kinds = 1 ∷ 1 ∷ [];
+      owners = 0 ∷ 1 ∷ [];
+      factors = 0 ∷ 0 ∷ [];
+      imports = takes;
+      exports = delivers;
+      holders = [];
+      flags = [];
+      offers = [];
+      available = [];
+      sellers = [];
+      deals = record { buyers = []; kinds = []; prices = []; quantities = [] };
+    }
 
 abbrev ownImporter : Sheet
 ownImporter = pairOf 13 10 3 (0 ∷ []) (7 ∷ []) (13 ∷ []) (1 ∷ []) (5 ∷ []) (4 ∷ [])
@@ -124,7 +141,7 @@ cases =
     -- 7
     ∷ asked (scheduleOf (plantsOf 5 (1 ∷ 0 ∷ []) (3 ∷ 9 ∷ []) (5 ∷ 5 ∷ []))) (0 ∷ 5 ∷ 0 ∷ [])
     -- 8: settled; price, demand and losses, then loss share, own energy, generator import, contracted, bought and sold an agent
-    ∷ asked (refusalOf wholeHour) (0 ∷ [])
+    ∷ asked (refusalOf 24 wholeHour) (0 ∷ [])
     ∷ asked (linesOf wholeHour)
     (8000 ∷ 1010 ∷ 60
     ∷ 0 ∷ 700 ∷ 0 ∷ 444 ∷ 0 ∷ 256
@@ -136,16 +153,24 @@ cases =
     ∷ asked (amountsIn wholeHour) (400 ∷ 88 ∷ 44 ∷ 500 ∷ [])
     ∷ asked (scheduleOf wholeHour) (8000 ∷ 700 ∷ 310 ∷ 0 ∷ [])
     -- 10
-    ∷ asked (refusalOf (pairOf 100 0 0 [] [] [] [] [] [])) (9 ∷ [])
-    ∷ asked (refusalOf (pairOf 0 100 0 [] [] [] [] [] [])) (8 ∷ [])
+    ∷ asked (refusalOf 12 (pairOf 100 0 0 [] [] [] [] [] [])) (9 ∷ [])
+    ∷ asked (refusalOf 12 (pairOf 0 100 0 [] [] [] [] [] [])) (8 ∷ [])
     -- 11
-    ∷ asked (refusalOf (pairOf 100 90 0 (0 ∷ []) (1 ∷ []) (99 ∷ []) [] [] [])) (10 ∷ [])
-    ∷ asked (refusalOf (pairOf 100 90 0 (0 ∷ []) (1 ∷ []) (100 ∷ []) [] [] [])) (0 ∷ [])
+    ∷ asked (refusalOf 12 (pairOf 100 90 0 (0 ∷ []) (1 ∷ []) (99 ∷ []) [] [] [])) (10 ∷ [])
+    ∷ asked (refusalOf 12 (pairOf 100 90 0 (0 ∷ []) (1 ∷ []) (100 ∷ []) [] [] [])) (0 ∷ [])
+    -- two refusals fit, and the one that comes first is given: 7 with 8, 7 with 9, 8 with 10, 10 with 11
+    ∷ asked (refusalOf 12 (retailersOf (0 ∷ 100 ∷ []) (10 ∷ 0 ∷ []))) (7 ∷ [])
+    ∷ asked (refusalOf 12 (retailersOf (0 ∷ 0 ∷ []) (0 ∷ 10 ∷ []))) (7 ∷ [])
+    ∷ asked (refusalOf 12 (pairOf 100 101 0 (0 ∷ []) (1 ∷ []) (99 ∷ []) [] [] [])) (8 ∷ [])
+    ∷ asked (refusalOf 11 (pairOf 100 90 0 (0 ∷ []) (1 ∷ []) (99 ∷ []) [] [] [])) (10 ∷ [])
+    ∷ asked (refusalOf 11 (pairOf 100 90 0 (0 ∷ []) (1 ∷ []) (100 ∷ []) [] [] [])) (11 ∷ [])
+    -- a generator may take more than it gives: 7 speaks of retailers
+    ∷ asked (refusalOf 12 (pairOf 3 0 5 [] [] [] [] [] [])) (8 ∷ [])
     -- a generator that sells above its contracts buys its own import all the same: 3 bought and 9 sold, not 6 sold
     ∷ asked (linesOf ownImporter) (7 ∷ 13 ∷ 0 ∷ 0 ∷ 10 ∷ 0 ∷ 4 ∷ 6 ∷ 0 ∷ 0 ∷ 13 ∷ 3 ∷ 4 ∷ 3 ∷ 9 ∷ [])
     ∷ record { ask = moneyIn ownImporter; due = negℤ (pos 42) ∷ pos 42 ∷ [] }
     ∷ []
 
 pub cases-hold : map (λ (c : Case). answer (c .ask)) cases ≡ map (λ (c : Case). c .due) cases
-unfolding answer cases sum peak pick keyed stop first total listTo leftOver goesBefore rankOf shareOf before ahead schedule hourPrice stands aheadOf firmAt restOf cheaperOf groupOf demandedAt amountAt amountsOf ownTo ownCount ownOf hourAmount retails referred imported exported consumption consumed ownImport entering leaving losses consumptions lossShare commercial demands hourDemand scheduled price amount own contracted bought sold moneyOf money cellOf figure firstOver balanceVerdict coverVerdict
+unfolding answer cases sum peak pick keyed stop first total listTo leftOver goesBefore rankOf shareOf before ahead schedule hourPrice stands aheadOf firmAt restOf cheaperOf groupOf demandedAt amountAt amountsOf ownTo ownCount ownOf hourAmount retails referred imported exported consumption consumed ownImport entering leaving losses consumptions lossShare commercial demands hourDemand scheduled bolsaPrice amount own contracted bought sold moneyOf money cellOf figure firstOver balanceVerdict coverVerdict roomVerdict hourVerdict
 cases-hold = refl

@@ -50,12 +50,10 @@ module _ (s : Sheet) where
       where
         go : (losses s ≡ 0) ⊎ (0 < consumed s) → sum (agents s) (shareOf (losses s) (consumptions s)) ≡ losses s
         go (inl z) =
-            sum-zero (agents s) (shareOf (losses s) (consumptions s)) (λ a l. ap (λ (x : ℕ). shareOf x (consumptions s) a) z ∙ share-no-amount (consumptions s) a)
+            sum-zero (agents s) (shareOf (losses s) (consumptions s))
+            (λ a l. ap (λ (x : ℕ). shareOf x (consumptions s) a) z ∙ share-no-amount (consumptions s) a)
             ∙ sym z
         go (inr h) = rw weights-long at (shares-sum (losses s) (consumptions s) (omega (arith, weights-total)))
-
-    pub share-le : (a : ℕ) → a < agents s → lossShare s a ≤ losses s
-    share-le a l = omega (arith, sum-term (agents s) a (lossShare s) l, loss-shares)
 
     -- ---- the hour's demand
     demand-parts : hourDemand s ≡ sum (agents s) (λ a. consumption s a + ownImport s a) + losses s
@@ -85,12 +83,15 @@ module _ (s : Sheet) where
     commercial-le a l = sum-term (agents s) a (λ k. commercial s k + ownImport s k) l
 
     -- what an agent takes beyond what it delivers, kind by kind
-    taken-is : (a : ℕ) → a < agents s → consumption s a + ownImport s a + exported s a ≡ imported s a + pick (not (retails s a)) (exported s a)
+    taken-is : (a : ℕ)
+        → a < agents s
+        → consumption s a + ownImport s a + exported s a ≡ imported s a + pick (not (retails s a)) (exported s a)
     unfolding consumption ownImport pick
     taken-is a l = go (retails s a) (b .exports a l)
       where
         go : (t : Bool) → (t ≡ true → exported s a ≤ imported s a)
-            → pick t (imported s a - exported s a) + pick (not t) (imported s a) + exported s a ≡ imported s a + pick (not t) (exported s a)
+            → pick t (imported s a - exported s a) + pick (not t) (imported s a) + exported s a ≡ imported s a
+            + pick (not t) (exported s a)
         go true h = omega (arith, h refl)
         go false h = omega arith
 
@@ -102,7 +103,8 @@ module _ (s : Sheet) where
         omega (
           arith,
           demand-parts,
-          sum-eq n (λ a. consumption s a + ownImport s a + exported s a) (λ a. imported s a + pick (not (retails s a)) (exported s a)) taken-is,
+          sum-eq n (λ a. consumption s a + ownImport s a + exported s a)
+              (λ a. imported s a + pick (not (retails s a)) (exported s a)) taken-is,
           sum-add n (λ a. consumption s a + ownImport s a) (exported s),
           sum-add n (imported s) (λ a. pick (not (retails s a)) (exported s a)),
           b .gain,
@@ -124,19 +126,26 @@ module _ (s : Sheet) (ok : Sound s) where
       same : (j : ℕ) (t : Bool) → retails s a ≡ t → eqb (at (s .owners) j) a ≡ true → retails s (at (s .owners) j) ≡ t
       same j t e q = ap (retails s) (eqb-true (at (s .owners) j) a q) ∙ e
 
-      go : (t : Bool) → retails s a ≡ t → pick (not t) (exported s a) ≡ sum (boundaries s) (λ j. pick (eqb (at (s .owners) j) a) (reads j))
+      go : (t : Bool)
+          → retails s a ≡ t
+          → pick (not t) (exported s a) ≡ sum (boundaries s) (λ j. pick (eqb (at (s .owners) j) a) (reads j))
       go true e =
           pick-false (not true) (exported s a) refl
           ∙ sym (sum-zero (boundaries s) (λ j. pick (eqb (at (s .owners) j) a) (reads j))
-          (λ j l. pick-same (eqb (at (s .owners) j) a) (reads j) 0 (λ q. pick-false _ (at (s .exports) j) (ap not (same j true e q))) ∙ pick-zero _))
+          (λ j l. pick-same (eqb (at (s .owners) j) a) (reads j) 0
+          (λ q. pick-false _ (at (s .exports) j) (ap not (same j true e q))) ∙ pick-zero _))
       go false e =
           pick-true (not false) (exported s a) refl
-          ∙ sum-eq (boundaries s) (λ j. pick (eqb (at (s .owners) j) a) (referred (at (s .exports) j) (at (s .factors) j))) (λ j. pick (eqb (at (s .owners) j) a) (reads j))
+          ∙ sum-eq (boundaries s)
+          (λ j. pick (eqb (at (s .owners) j) a) (referred (at (s .exports) j) (at (s .factors) j)))
+          (λ j. pick (eqb (at (s .owners) j) a) (reads j))
           (λ j l. pick-same (eqb (at (s .owners) j) a) _ _
-          (λ q. referred-plain _ _ (ok .boundary j l .unreferred (same j false e q)) ∙ sym (pick-true _ (at (s .exports) j) (ap not (same j false e q)))))
+          (λ q. referred-plain _ _ (ok .boundary j l .unreferred (same j false e q))
+          ∙ sym (pick-true _ (at (s .exports) j) (ap not (same j false e q)))))
 
   pub generators-metered : sum (agents s) (λ a. pick (not (retails s a)) (exported s a)) ≡ generated s
   unfolding generated reads
   generators-metered =
-      sum-eq (agents s) (λ a. pick (not (retails s a)) (exported s a)) (λ a. keyed (at (s .owners)) reads (boundaries s) a) (λ a l. one-generator a)
+      sum-eq (agents s) (λ a. pick (not (retails s a)) (exported s a))
+      (λ a. keyed (at (s .owners)) reads (boundaries s) a) (λ a l. one-generator a)
       ∙ keyed-total (at (s .owners)) reads (agents s) (boundaries s) (λ j l. ok .boundary j l .there)

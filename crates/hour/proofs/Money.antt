@@ -29,10 +29,6 @@ neg-small : (x : ℕ) → x < 2 ^ 63 → SFits w64 (negℤ (pos x))
 neg-small zero h = record { sfits = h }
 neg-small (suc x) h = record { sfits = omega arith }
 
--- a natural below 2^63 fits
-pub pos-fits : (a : ℕ) → a < 2 ^ 63 → SFits w64 (pos a)
-pos-fits a h = record { sfits = h }
-
 -- a difference of two naturals fits where each does
 pub diff-fits : (a b : ℕ) → a < 2 ^ 63 → b < 2 ^ 63 → SFits w64 (pos a -ℤ pos b)
 diff-fits a b h k = go (decLt a b)

@@ -13,11 +13,11 @@ use Rattle.sums.specs.Lists.{at}
 use Rattle.sums.proofs.First.{first-below}
 use Rattle.sums.proofs.Tests.{all-true, or-cases}
 use Rattle.refusals.specs.Refusals.{badExports, badGain, unshared, uncovered, noRoom, refused, refusedUnless}
-use Rattle.refusals.specs.declared.Refusal.{Refusal}
 use Rattle.refusals.specs.declared.Verdict.{Verdict}
 use Rattle.hour.specs.Sheet.{Sheet, agents, plants, contracts, retails}
 use Rattle.hour.specs.Balance.{imported, exported, consumed, entering, leaving, losses, hourDemand}
-use Rattle.hour.specs.Answer.{Lent, Roomy, firstOver, balanceVerdict, coverVerdict, roomVerdict, hourVerdict}
+use Rattle.hour.specs.Lines.{cellsPerAgent}
+use Rattle.hour.specs.Answer.{Lent, Roomy, firstOver, balanceVerdict, coverVerdict, roomVerdict}
 use Rattle.refusals.proofs.Fine.{fine-parts, fine-test}
 
 -- ---- what passing refusals 7 to 9 says
@@ -40,12 +40,19 @@ module _ (s : Sheet) where
       let all = fine-parts (tests s) h in
       let none : agents s ≤ firstOver s = leb-true _ _ (fine-test _ badExports (firstOver s) (all .0)) in
       record {
-        exports = λ a l r. within a r (first-below (agents s) a (λ b. retails s b && ltb (imported s b) (exported s b)) (omega arith));
+        exports =
+            λ a l r. within a r
+            (first-below (agents s) a (λ b. retails s b && ltb (imported s b) (exported s b)) (omega arith));
         gain = leb-true _ _ (fine-test _ badGain 0 (all .1 .0));
-        shared = ⊎-elim (λ e. inl (eqb-true (losses s) 0 e)) (λ e. inr (ltb-true 0 (consumed s) e)) (or-cases (eqb (losses s) 0) (ltb 0 (consumed s)) (fine-test _ unshared 0 (all .1 .1 .0)));
+        shared =
+            ⊎-elim (λ e. inl (eqb-true (losses s) 0 e)) (λ e. inr (ltb-true 0 (consumed s) e))
+            (or-cases (eqb (losses s) 0) (ltb 0 (consumed s)) (fine-test _ unshared 0 (all .1 .1 .0)));
       }
     where
-      within : (a : ℕ) → retails s a ≡ true → (retails s a && ltb (imported s a) (exported s a)) ≡ false → exported s a ≤ imported s a
+      within : (a : ℕ)
+          → retails s a ≡ true
+          → (retails s a && ltb (imported s a) (exported s a)) ≡ false
+          → exported s a ≤ imported s a
       within a r e = ltb-false _ _ (rw r at e)
 
   -- ---- refusals 7 to 9, in each case
@@ -85,7 +92,10 @@ module _ (s : Sheet) (l : Lent) where
   pub roomy : roomVerdict s l ≡ Verdict.Fine → Roomy s l
   unfolding roomVerdict
   roomy h =
-      let all = all-true (leb (6 * agents s) (length (l .figures))) (leb (agents s) (length (l .money)) ∷ leb (plants s) (length (l .schedule)) ∷ leb (contracts s) (length (l .amounts)) ∷ []) (fine-test _ noRoom 0 h) in
+      let all =
+      all-true (leb (cellsPerAgent * agents s) (length (l .figures)))
+      (leb (agents s) (length (l .money)) ∷ leb (plants s) (length (l .schedule))
+      ∷ leb (contracts s) (length (l .amounts)) ∷ []) (fine-test _ noRoom 0 h) in
       record {
         figures = leb-true _ _ (all .0);
         money = leb-true _ _ (all .1 .0);
@@ -93,30 +103,6 @@ module _ (s : Sheet) (l : Lent) where
         amounts = leb-true _ _ (all .1 .1 .1 .0);
       }
 
-  pub room-11 : (leb (6 * agents s) (length (l .figures)) && leb (agents s) (length (l .money)) && leb (plants s) (length (l .schedule)) && leb (contracts s) (length (l .amounts))) ≡ false
-      → roomVerdict s l ≡ refused noRoom 0
-  unfolding roomVerdict
-  room-11 h = rw h
-
   pub room-fine : Roomy s l → roomVerdict s l ≡ Verdict.Fine
   unfolding roomVerdict
   room-fine r = simp (le-leb _ _ (r .figures), le-leb _ _ (r .money), le-leb _ _ (r .schedule), le-leb _ _ (r .amounts))
-
-  -- ---- the first of refusals 7 to 11
-  pub hour-balance : (r : Refusal) → balanceVerdict s ≡ Verdict.Refused r → hourVerdict s l ≡ Verdict.Refused r
-  unfolding hourVerdict
-  hour-balance r h = rw h
-
-  module _ (b : balanceVerdict s ≡ Verdict.Fine) where
-    pub hour-cover : (r : Refusal) → coverVerdict s ≡ Verdict.Refused r → hourVerdict s l ≡ Verdict.Refused r
-    unfolding hourVerdict
-    hour-cover r h = rw (b, h)
-
-    module _ (d : coverVerdict s ≡ Verdict.Fine) where
-      pub hour-room : (r : Refusal) → roomVerdict s l ≡ Verdict.Refused r → hourVerdict s l ≡ Verdict.Refused r
-      unfolding hourVerdict
-      hour-room r h = rw (b, d, h)
-
-      pub hour-fine : roomVerdict s l ≡ Verdict.Fine → hourVerdict s l ≡ Verdict.Fine
-      unfolding hourVerdict
-      hour-fine h = rw (b, d, h)

@@ -12,7 +12,7 @@ use Rattle.refusals.specs.Refusals.{badExports, badGain, unshared, uncovered, n
 use Rattle.refusals.specs.declared.Verdict.{Verdict}
 use Rattle.hour.specs.Sheet.{Sheet, agents, plants, contracts, retails}
 use Rattle.hour.specs.Balance.{imported, exported, consumed, entering, leaving, losses, hourDemand}
-use Rattle.hour.specs.Lines.{price}
+use Rattle.hour.specs.Lines.{bolsaPrice, cellsPerAgent}
 use Rattle.hour.specs.declared.Summary.{Summary}
 
 -- the four lent lists
@@ -38,17 +38,18 @@ balanceVerdict s =
 unfoldable pub coverVerdict : Sheet → Verdict
 coverVerdict s = refusedUnless (leb (hourDemand s) (sum (plants s) (at (s .available)))) uncovered 0
 
--- refusal 11: six cells and one money an agent, one cell a plant and a contract
+-- refusal 11: the cells of the figures and one money an agent, one cell a plant and a contract
 unfoldable pub roomVerdict : Sheet → Lent → Verdict
 roomVerdict s l =
     refusedUnless
-    (leb (6 * agents s) (length (l .figures)) && leb (agents s) (length (l .money)) && leb (plants s) (length (l .schedule)) && leb (contracts s) (length (l .amounts)))
+    (leb (cellsPerAgent * agents s) (length (l .figures)) && leb (agents s) (length (l .money))
+    && leb (plants s) (length (l .schedule)) && leb (contracts s) (length (l .amounts)))
     noRoom
     0
 
 -- the same, as a fact: the lent lists have room
 pub record Roomy (s : Sheet) (l : Lent) : Type 0 where
-  pub figures : 6 * agents s ≤ length (l .figures)
+  pub figures : cellsPerAgent * agents s ≤ length (l .figures)
   pub money : agents s ≤ length (l .money)
   pub schedule : plants s ≤ length (l .schedule)
   pub amounts : contracts s ≤ length (l .amounts)
@@ -58,5 +59,6 @@ hourVerdict s l = firstOf (balanceVerdict s ∷ coverVerdict s ∷ roomVerdict s
 
 -- a settled hour has number 0 and place 0; a refusal has price, demand and losses 0
 abbrev pub summaryOf : Verdict → Sheet → Summary
-summaryOf Verdict.Fine s = record { number = 0; place = 0; price = price s; demand = hourDemand s; losses = losses s }
+summaryOf Verdict.Fine s =
+    record { number = 0; place = 0; price = bolsaPrice s; demand = hourDemand s; losses = losses s }
 summaryOf (Verdict.Refused r) s = record { number = r .number; place = r .place; price = 0; demand = 0; losses = 0 }

@@ -13,9 +13,8 @@ use Rattle.hour.specs.Balance.{ownImport, lossShare, commercial, demands
 unfoldable pub scheduled : Sheet → ℕ → ℕ
 scheduled s i = schedule (at (s .offers)) (at (s .available)) (plants s) (hourDemand s) i
 
--- the bolsa price
-unfoldable pub price : Sheet → ℕ
-price s = hourPrice (at (s .offers)) (at (s .flags)) (scheduled s) (plants s)
+unfoldable pub bolsaPrice : Sheet → ℕ
+bolsaPrice s = hourPrice (at (s .offers)) (at (s .flags)) (scheduled s) (plants s)
 
 -- the amount of contract j; seller and buyer hold the same
 unfoldable pub amount : Sheet → ℕ → ℕ
@@ -43,9 +42,12 @@ unfoldable pub moneyOf : (sold bought price : ℕ) → ℤ
 moneyOf sold bought price = (pos sold -ℤ pos bought) *ℤ pos price
 
 unfoldable pub money : Sheet → ℕ → ℤ
-money s a = moneyOf (sold s a) (bought s a) (price s)
+money s a = moneyOf (sold s a) (bought s a) (bolsaPrice s)
 
--- six cells an agent: loss share, own energy, generator import, contracted, bought and sold
+-- the cells of agent a in the figures: loss share, own energy, generator import, contracted, bought and sold
+abbrev pub cellsPerAgent : ℕ
+cellsPerAgent = 6
+
 unfoldable pub cellOf : (share own import contracted bought sold : ℕ → ℕ) → (cell a : ℕ) → ℕ
 cellOf f₀ f₁ f₂ f₃ f₄ f₅ zero a = f₀ a
 cellOf f₀ f₁ f₂ f₃ f₄ f₅ (suc zero) a = f₁ a
@@ -55,4 +57,4 @@ cellOf f₀ f₁ f₂ f₃ f₄ f₅ (suc (suc (suc (suc zero)))) a = f₄ a
 cellOf f₀ f₁ f₂ f₃ f₄ f₅ (suc (suc (suc (suc (suc c))))) a = f₅ a
 
 unfoldable pub figure : Sheet → ℕ → ℕ
-figure s k = cellOf (lossShare s) (own s) (ownImport s) (contracted s) (bought s) (sold s) (k % 6) (k / 6)
+figure s k = cellOf (lossShare s) (own s) (ownImport s) (contracted s) (bought s) (sold s) (k % cellsPerAgent) (k / cellsPerAgent)

@@ -33,14 +33,15 @@ use Rattle.hour.proofs.Balance.{contracted-both}
 use Rattle.columns.specs.Columns.{columnsOf}
 use Rattle.columns.proofs.Columns.{agents-long, contracts-long, seller-at, buyer-at, sound}
 use Rattle.balance.specs.Balances.{zeros}
-use Rattle.settle.specs.Parts.{Holding, Held}
+use Rattle.settle.specs.Parts.{Holding, HeldByAgent}
 
 demands-long : (h : Sheet) → length (demands h) ≡ agents h
 unfolding demands
 demands-long h = length-listTo (commercial h) (agents h)
 
 -- ---- the section is the contract rows of the sheet
-module _ (s : List ℕ) (c : Counts) (e : readOf s ≡ Reading.Accepted c) (sec : List ℕ) (is : sec ≡ stretch s (contractStart c) (c .contracts)) where
+module _ (s : List ℕ) (c : Counts) (e : readOf s ≡ Reading.Accepted c) (sec : List ℕ)
+    (is : sec ≡ stretch s (contractStart c) (c .contracts)) where
   abbrev h : Sheet
   h = columnsOf s c
 
@@ -57,10 +58,14 @@ module _ (s : List ℕ) (c : Counts) (e : readOf s ≡ Reading.Accepted c) (sec 
   count = omega (arith, long)
 
   row : (j : ℕ) → j < c .contracts → rowIn sec j ≡ contractAt s c j
-  row j l = ap (λ (b : List ℕ). rowIn b j) is ∙ ap contractOf (stretch-row s (contractStart c) (c .contracts) within j l)
+  row j l =
+      ap (λ (b : List ℕ). rowIn b j) is ∙ ap contractOf (stretch-row s (contractStart c) (c .contracts) within j l)
 
-  column : (f : Contract → ℕ) → listTo (λ j. f (rowIn sec j)) (countIn sec) ≡ listTo (λ j. f (contractAt s c j)) (c .contracts)
-  column f = ap (listTo (λ j. f (rowIn sec j))) count ∙ listTo-eq (λ j. f (rowIn sec j)) (λ j. f (contractAt s c j)) (c .contracts) (λ j l. ap f (row j l))
+  column : (f : Contract → ℕ)
+      → listTo (λ j. f (rowIn sec j)) (countIn sec) ≡ listTo (λ j. f (contractAt s c j)) (c .contracts)
+  column f =
+      ap (listTo (λ j. f (rowIn sec j))) count
+      ∙ listTo-eq (λ j. f (rowIn sec j)) (λ j. f (contractAt s c j)) (c .contracts) (λ j l. ap f (row j l))
 
   deals-are : rowsIn sec ≡ columnsOf s c .deals
   unfolding rowsIn columnsOf
@@ -90,12 +95,17 @@ module _ (s : List ℕ) (c : Counts) (e : readOf s ≡ Reading.Accepted c) (sec 
       })
 
   module _ (before after : List ℕ) (l : c .contracts ≤ length before) where
-    pub amounts-are : (ds : List ℕ) (v : Verdict) → ds ≡ demands h → Assigned sec ds before v after → Filled 0 before after (c .contracts) (amount h)
+    pub amounts-are : (ds : List ℕ) (v : Verdict)
+        → ds ≡ demands h
+        → Assigned sec ds before v after
+        → Filled 0 before after (c .contracts) (amount h)
     unfolding amount
     amounts-are ds v d w =
         let x : Assigned sec (demands h) before v after = rw d at w in
-        let f : assignVerdict sec (demands h) before ≡ Verdict.Fine = assign-fine sec (demands h) before laid good (omega (arith, count)) in
-        filled-by 0 _ _ _ (hourAmount (rowsIn sec) (demands h)) (hourAmount (h .deals) (demands h)) (λ j m. ap (λ (k : Rows). hourAmount k (demands h) j) deals-are)
+        let f : assignVerdict sec (demands h) before
+        ≡ Verdict.Fine = assign-fine sec (demands h) before laid good (omega (arith, count)) in
+        filled-by 0 _ _ _ (hourAmount (rowsIn sec) (demands h)) (hourAmount (h .deals) (demands h))
+        (λ j m. ap (λ (k : Rows). hourAmount k (demands h) j) deals-are)
         (filled-count 0 _ _ _ _ _ (ap (λ (u : Verdict). cells u (countIn sec)) f ∙ count) (x .result))
 
     module _ (f : Filled 0 before after (c .contracts) (amount h)) where
@@ -107,32 +117,61 @@ module _ (s : List ℕ) (c : Counts) (e : readOf s ≡ Reading.Accepted c) (sec 
           record {
             few = laid .few;
             long = omega (arith, count, f .long);
-            buyer = λ j m. let k : j < c .contracts = omega (arith, count) in omega (arith, ap (λ (x : Contract). x .buyer) (row j k), accepted-contract s c e j k .buyerThere, accepted-few s c e .agents);
-            seller = λ j m. let k : j < c .contracts = omega (arith, count) in omega (arith, ap (λ (x : Contract). x .seller) (row j k), accepted-contract s c e j k .sellerThere, accepted-few s c e .agents);
+            buyer =
+                λ j m. let k : j < c .contracts =
+                omega (arith, count) in
+                omega (
+                  arith,
+                  ap (λ (x : Contract). x .buyer) (row j k),
+                  accepted-contract s c e j k .buyerThere,
+                  accepted-few s c e .agents,
+                );
+            seller =
+                λ j m. let k : j < c .contracts =
+                omega (arith, count) in
+                omega (
+                  arith,
+                  ap (λ (x : Contract). x .seller) (row j k),
+                  accepted-contract s c e j k .sellerThere,
+                  accepted-few s c e .agents,
+                );
             amount = λ j m. omega (arith, value j m, amount-le h ok j (omega (arith, count, contracts-long s c)));
           }
 
       -- ---- bought and sold, as the columns have them
-      bought : (a : ℕ) → keyed (λ j. rowIn sec j .buyer) (at after) (countIn sec) a ≡ keyed (at (h .deals .buyers)) (amount h) (contracts h) a
+      bought : (a : ℕ)
+          → keyed (λ j. rowIn sec j .buyer) (at after) (countIn sec) a
+          ≡ keyed (at (h .deals .buyers)) (amount h) (contracts h) a
       bought a =
-          keyed-eq _ _ _ _ (countIn sec) a (λ j m. let k : j < c .contracts = omega (arith, count) in ap (λ (x : Contract). x .buyer) (row j k) ∙ sym (buyer-at s c j k)) value
+          keyed-eq _ _ _ _ (countIn sec) a
+          (λ j m. let k : j < c .contracts = omega (arith, count) in ap (λ (x : Contract). x .buyer) (row j k)
+          ∙ sym (buyer-at s c j k)) value
           ∙ ap (λ (n : ℕ). keyed (at (h .deals .buyers)) (amount h) n a) (count ∙ sym (contracts-long s c))
 
-      sold : (a : ℕ) → keyed (λ j. rowIn sec j .seller) (at after) (countIn sec) a ≡ keyed (at (h .sellers)) (amount h) (contracts h) a
+      sold : (a : ℕ)
+          → keyed (λ j. rowIn sec j .seller) (at after) (countIn sec) a
+          ≡ keyed (at (h .sellers)) (amount h) (contracts h) a
       sold a =
-          keyed-eq _ _ _ _ (countIn sec) a (λ j m. let k : j < c .contracts = omega (arith, count) in ap (λ (x : Contract). x .seller) (row j k) ∙ sym (seller-at s c j k)) value
+          keyed-eq _ _ _ _ (countIn sec) a
+          (λ j m. let k : j < c .contracts = omega (arith, count) in ap (λ (x : Contract). x .seller) (row j k)
+          ∙ sym (seller-at s c j k)) value
           ∙ ap (λ (n : ℕ). keyed (at (h .sellers)) (amount h) n a) (count ∙ sym (contracts-long s c))
 
       -- a cell past the agents has neither
-      nobody : (a : ℕ) → agents h ≤ a → keyed (at (h .deals .buyers)) (amount h) (contracts h) a + keyed (at (h .sellers)) (amount h) (contracts h) a ≡ 0
+      nobody : (a : ℕ)
+          → agents h ≤ a
+          → keyed (at (h .deals .buyers)) (amount h) (contracts h) a
+          + keyed (at (h .sellers)) (amount h) (contracts h) a ≡ 0
       nobody a l =
           omega (
             arith,
-            keyed-absent (at (h .deals .buyers)) (amount h) (contracts h) a (λ j m q. omega (arith, ok .contract j m .buyerThere)),
-            keyed-absent (at (h .sellers)) (amount h) (contracts h) a (λ j m q. omega (arith, ok .contract j m .sellerThere)),
+            keyed-absent (at (h .deals .buyers)) (amount h) (contracts h) a
+                (λ j m q. omega (arith, ok .contract j m .buyerThere)),
+            keyed-absent (at (h .sellers)) (amount h) (contracts h) a
+                (λ j m q. omega (arith, ok .contract j m .sellerThere)),
           )
 
-      pub contracted-are : (sums : List ℕ) → Held sec after sums → Filled 0 zeros sums (agents h) (contracted h)
+      pub contracted-are : (sums : List ℕ) → HeldByAgent sec after sums → Filled 0 zeros sums (agents h) (contracted h)
       contracted-are sums w =
           record {
             done = λ a m. w .each a (omega (arith, ok .few .agents)) ∙ both a ∙ contracted-both h ok a;
@@ -140,8 +179,11 @@ module _ (s : List ℕ) (c : Counts) (e : readOf s ≡ Reading.Accepted c) (sec 
             long = w .long;
           }
         where
-          both : (a : ℕ) → keyed (λ j. rowIn sec j .buyer) (at after) (countIn sec) a + keyed (λ j. rowIn sec j .seller) (at after) (countIn sec) a
-              ≡ keyed (at (h .deals .buyers)) (amount h) (contracts h) a + keyed (at (h .sellers)) (amount h) (contracts h) a
+          both : (a : ℕ)
+              → keyed (λ j. rowIn sec j .buyer) (at after) (countIn sec) a
+              + keyed (λ j. rowIn sec j .seller) (at after) (countIn sec) a
+              ≡ keyed (at (h .deals .buyers)) (amount h) (contracts h) a
+              + keyed (at (h .sellers)) (amount h) (contracts h) a
           both a = omega (arith, bought a, sold a)
 
           rest : (a : ℕ) → agents h ≤ a → Dec (a < mostAgents) → at sums a ≡ 0
@@ -157,38 +199,64 @@ module _ (section amounts : List ℕ) where
   abbrev pub soldTo : ℕ → ℕ → ℕ
   soldTo n a = keyed (λ j. rowIn section j .seller) (at amounts) n a
 
-  module _ (p : Holding section amounts) (j : ℕ) (l : j < countIn section) (k : Contract) (is : k ≡ rowIn section j) where
-    pub buyer-there : k .buyer < mostAgents
-    buyer-there = omega (arith, ap (λ (x : Contract). x .buyer) is, p .buyer j l)
+  module _ (p : Holding section amounts) (j : ℕ) (l : j < countIn section) (k : Contract) (is : k ≡ rowIn section j)
+    where
+      pub buyer-there : k .buyer < mostAgents
+      buyer-there = omega (arith, ap (λ (x : Contract). x .buyer) is, p .buyer j l)
 
-    pub seller-there : k .seller < mostAgents
-    seller-there = omega (arith, ap (λ (x : Contract). x .seller) is, p .seller j l)
+      pub seller-there : k .seller < mostAgents
+      seller-there = omega (arith, ap (λ (x : Contract). x .seller) is, p .seller j l)
 
-    module _ (held : List ℕ) (long : length held ≡ mostAgents) (before : (a : ℕ) → a < mostAgents → at held a ≡ boughtTo j a + soldTo j a) where
-      -- the buyer's amount is added
-      abbrev once : List ℕ
-      once = set held (k .buyer) (at held (k .buyer) + at amounts j)
+      module _ (held : List ℕ) (long : length held ≡ mostAgents)
+          (before : (a : ℕ) → a < mostAgents → at held a ≡ boughtTo j a + soldTo j a) where
+        -- the buyer's amount is added
+        abbrev once : List ℕ
+        once = set held (k .buyer) (at held (k .buyer) + at amounts j)
 
-      half : (a : ℕ) → a < mostAgents → at once a ≡ boughtTo (j + 1) a + soldTo j a
-      half a m = keyed-beside (λ i. rowIn section i .buyer) (at amounts) j held (k .buyer) (at amounts j) (ap (λ (x : Contract). x .buyer) is) refl (omega (arith, buyer-there)) a (soldTo j a) (before a m)
+        half : (a : ℕ) → a < mostAgents → at once a ≡ boughtTo (j + 1) a + soldTo j a
+        half a m =
+            keyed-beside (λ i. rowIn section i .buyer) (at amounts) j held (k .buyer) (at amounts j)
+            (ap (λ (x : Contract). x .buyer) is) refl (omega (arith, buyer-there)) a (soldTo j a) (before a m)
 
-      bought-few : (n a : ℕ) → n ≤ countIn section → boughtTo n a ≤ mostEnergy * n
-      bought-few n a m = keyed-most (λ i. rowIn section i .buyer) (at amounts) n a mostEnergy (λ i h. p .amount i (omega arith))
+        bought-few : (n a : ℕ) → n ≤ countIn section → boughtTo n a ≤ mostEnergy * n
+        bought-few n a m =
+            keyed-most (λ i. rowIn section i .buyer) (at amounts) n a mostEnergy (λ i h. p .amount i (omega arith))
 
-      sold-few : (n a : ℕ) → n ≤ countIn section → soldTo n a ≤ mostEnergy * n
-      sold-few n a m = keyed-most (λ i. rowIn section i .seller) (at amounts) n a mostEnergy (λ i h. p .amount i (omega arith))
+        sold-few : (n a : ℕ) → n ≤ countIn section → soldTo n a ≤ mostEnergy * n
+        sold-few n a m =
+            keyed-most (λ i. rowIn section i .seller) (at amounts) n a mostEnergy (λ i h. p .amount i (omega arith))
 
-      pub first-fits : at held (k .buyer) + at amounts j ≤ 4294967295
-      first-fits = omega (arith, before (k .buyer) buyer-there, bought-few j (k .buyer) (omega arith), sold-few j (k .buyer) (omega arith), p .amount j l, p .few)
+        pub first-fits : at held (k .buyer) + at amounts j ≤ 4294967295
+        first-fits =
+            omega (
+              arith,
+              before (k .buyer) buyer-there,
+              bought-few j (k .buyer) (omega arith),
+              sold-few j (k .buyer) (omega arith),
+              p .amount j l,
+              p .few,
+            )
 
-      pub second-fits : at once (k .seller) + at amounts j ≤ 4294967295
-      second-fits = omega (arith, half (k .seller) seller-there, bought-few (j + 1) (k .seller) (omega arith), sold-few j (k .seller) (omega arith), p .amount j l, p .few)
+        pub second-fits : at once (k .seller) + at amounts j ≤ 4294967295
+        second-fits =
+            omega (
+              arith,
+              half (k .seller) seller-there,
+              bought-few (j + 1) (k .seller) (omega arith),
+              sold-few j (k .seller) (omega arith),
+              p .amount j l,
+              p .few,
+            )
 
-      -- and the seller's
-      pub both-added : (a : ℕ) → a < mostAgents → at (set once (k .seller) (at once (k .seller) + at amounts j)) a ≡ boughtTo (j + 1) a + soldTo (j + 1) a
-      both-added a m =
-          omega (
-            arith,
-            keyed-beside (λ i. rowIn section i .seller) (at amounts) j once (k .seller) (at amounts j) (ap (λ (x : Contract). x .seller) is) refl
-                (omega (arith, seller-there, length-set held (k .buyer) (at held (k .buyer) + at amounts j))) a (boughtTo (j + 1) a) (omega (arith, half a m)),
-          )
+        -- and the seller's
+        pub both-added : (a : ℕ)
+            → a < mostAgents
+            → at (set once (k .seller) (at once (k .seller) + at amounts j)) a ≡ boughtTo (j + 1) a + soldTo (j + 1) a
+        both-added a m =
+            omega (
+              arith,
+              keyed-beside (λ i. rowIn section i .seller) (at amounts) j once (k .seller) (at amounts j)
+                  (ap (λ (x : Contract). x .seller) is) refl
+                  (omega (arith, seller-there, length-set held (k .buyer) (at held (k .buyer) + at amounts j))) a
+                  (boughtTo (j + 1) a) (omega (arith, half a m)),
+            )

@@ -27,19 +27,19 @@ use Rattle.refusals.proofs.Fine.{both-fine, AllFine, fine-parts}
 use Rattle.balance.specs.Balances.{zeros, weighVerdict, Weighed}
 use Rattle.balance.specs.declared.Balance.{Balance}
 use Rattle.balance.proofs.Weighed.{weighed-counts, weighed-accepted}
-use Rattle.settle.specs.Parts.{turnedAway, roomy, judged}
+use Rattle.settle.specs.Parts.{turnedAway, roomy, lateVerdict}
 use Rattle.settle.specs.Settled.{lent, verdictOf, Outcome, Settled}
 
 -- ---- the ways out of the judgement
 module _ (v : Verdict) (d o : ℕ) (room : Bool) (e : v ≡ Verdict.Fine) where
-  pub judged-10 : o < d → judged v d o room ≡ refused uncovered 0
-  judged-10 l = rw (e, lt-leb d o l)
+  pub late-10 : o < d → lateVerdict v d o room ≡ refused uncovered 0
+  late-10 l = rw (e, lt-leb d o l)
 
-  pub judged-11 : d ≤ o → room ≡ false → judged v d o room ≡ refused noRoom 0
-  judged-11 l r = rw (e, le-leb d o l, r)
+  pub late-11 : d ≤ o → room ≡ false → lateVerdict v d o room ≡ refused noRoom 0
+  late-11 l r = rw (e, le-leb d o l, r)
 
-  pub judged-fine : d ≤ o → room ≡ true → judged v d o room ≡ Verdict.Fine
-  judged-fine l r = rw (e, le-leb d o l, r)
+  pub late-fine : d ≤ o → room ≡ true → lateVerdict v d o room ≡ Verdict.Fine
+  late-fine l r = rw (e, le-leb d o l, r)
 
 -- a refused balance is the hour's refusal; else the counts and the demand are the sheet's, and so are refusals 10 and 11
 module _ (bytes : List ℕ) (l : Lent) (b : Balance) (w : Weighed bytes b) where
@@ -47,21 +47,34 @@ module _ (bytes : List ℕ) (l : Lent) (b : Balance) (w : Weighed bytes b) where
   sheet = columnsOf bytes (b .counts)
 
   abbrev room : Bool
-  room = roomy (b .counts .agents) (b .counts .plants) (b .counts .contracts) (length (l .figures)) (length (l .money)) (length (l .schedule)) (length (l .amounts))
+  room =
+      roomy (b .counts .agents) (b .counts .plants) (b .counts .contracts) (length (l .figures)) (length (l .money))
+      (length (l .schedule)) (length (l .amounts))
 
-  pub verdict-is : judged (b .verdict) (b .demand) (sum (plants sheet) (at (sheet .available))) room ≡ verdictOf bytes l
+  pub verdict-is : lateVerdict (b .verdict) (b .demand) (sum (plants sheet) (at (sheet .available))) room
+      ≡ verdictOf bytes l
   unfolding verdictOf hourVerdict coverVerdict roomVerdict weighVerdict hourOf
   verdict-is = go (readVerdict bytes) (balanceVerdict (hourOf bytes)) refl refl
     where
       go : (u v : Verdict) → readVerdict bytes ≡ u → balanceVerdict (hourOf bytes) ≡ v
-          → judged (b .verdict) (b .demand) (sum (plants sheet) (at (sheet .available))) room ≡ verdictOf bytes l
+          → lateVerdict (b .verdict) (b .demand) (sum (plants sheet) (at (sheet .available))) room ≡ verdictOf bytes l
       go (Verdict.Refused q) v e f = rw (w .answer, e)
       go Verdict.Fine (Verdict.Refused q) e f = rw (w .answer, e, f)
       go Verdict.Fine Verdict.Fine e f =
           let fine : weighVerdict bytes ≡ Verdict.Fine = rw (e, f) in
           let c : b .counts ≡ countsOf bytes = weighed-counts bytes b w fine in
           let d : b .demand ≡ hourDemand (hourOf bytes) = rw fine at (w .demand) in
-          rw (w .answer, fine, d, c, e, f, agents-long bytes (countsOf bytes), plants-long bytes (countsOf bytes), contracts-long bytes (countsOf bytes))
+          rw (
+            w .answer,
+            fine,
+            d,
+            c,
+            e,
+            f,
+            agents-long bytes (countsOf bytes),
+            plants-long bytes (countsOf bytes),
+            contracts-long bytes (countsOf bytes),
+          )
 
   -- ---- an hour that nothing turns away: what was read and weighed is the sheet's
   pub record Open : Type 0 where
@@ -82,7 +95,9 @@ module _ (bytes : List ℕ) (l : Lent) (b : Balance) (w : Weighed bytes b) where
 
     tests : AllFine (balanceVerdict (hourOf bytes) ∷ coverVerdict (hourOf bytes) ∷ roomVerdict (hourOf bytes) l ∷ [])
     unfolding hourVerdict
-    tests = fine-parts (balanceVerdict (hourOf bytes) ∷ coverVerdict (hourOf bytes) ∷ roomVerdict (hourOf bytes) l ∷ []) (parts .1)
+    tests =
+        fine-parts (balanceVerdict (hourOf bytes) ∷ coverVerdict (hourOf bytes) ∷ roomVerdict (hourOf bytes) l ∷ [])
+        (parts .1)
 
     weight : weighVerdict bytes ≡ Verdict.Fine
     unfolding weighVerdict
@@ -109,12 +124,18 @@ module _ (bytes : List ℕ) (l : Lent) (b : Balance) (w : Weighed bytes b) where
           demand = rw h (rw weight at (w .demand));
         }
 
-pub demands-are : (h : Sheet) (n : ℕ) (l : List ℕ) → agents h ≡ n → n ≤ mostAgents → Filled 0 zeros l n (commercial h) → take n l ≡ demands h
+pub demands-are : (h : Sheet) (n : ℕ) (l : List ℕ)
+    → agents h ≡ n
+    → n ≤ mostAgents
+    → Filled 0 zeros l n (commercial h)
+    → take n l ≡ demands h
 unfolding demands
 demands-are h n l e few f = rw e (filled-front 0 zeros l n (commercial h) few f)
 
 -- ---- a refusal
-pub turned-away : (v : Verdict) (h : Sheet) (l : Lent) (r : Refusal) → v ≡ Verdict.Refused r → Outcome v h l l (turnedAway r)
+pub turned-away : (v : Verdict) (h : Sheet) (l : Lent) (r : Refusal)
+    → v ≡ Verdict.Refused r
+    → Outcome v h l l (turnedAway r)
 turned-away v h l r e =
     let none : (k : ℕ) → 0 ≡ cells v k = λ k. rw e in
     record {
@@ -126,13 +147,21 @@ turned-away v h l r e =
     }
 
 -- ---- two outcomes that meet the promise are one
-pub one-outcome : (bytes : List ℕ) (before x y : Lent) (q r : Summary) → Settled bytes before x q → Settled bytes before y r → (q ≡ r) × (x ≡ y)
-one-outcome bytes before x y q r h k = (
+pub settled-unique : (bytes : List ℕ) (before x y : Lent) (q r : Summary)
+    → Settled bytes before x q
+    → Settled bytes before y r
+    → (q ≡ r) × (x ≡ y)
+settled-unique bytes before x y q r h k = (
   h .answered ∙ sym (k .answered),
   same x y (filled-unique 0 _ _ _ _ _ (h .figures) (k .figures)) (filled-unique (pos 0) _ _ _ _ _ (h .money) (k .money))
       (filled-unique 0 _ _ _ _ _ (h .schedule) (k .schedule)) (filled-unique 0 _ _ _ _ _ (h .amounts) (k .amounts)),
 )
   where
-    same : (x y : Lent) → x .figures ≡ y .figures → x .money ≡ y .money → x .schedule ≡ y .schedule → x .amounts ≡ y .amounts
-        → lent (x .figures) (x .money) (x .schedule) (x .amounts) ≡ lent (y .figures) (y .money) (y .schedule) (y .amounts)
+    same : (x y : Lent)
+        → x .figures ≡ y .figures
+        → x .money ≡ y .money
+        → x .schedule ≡ y .schedule
+        → x .amounts ≡ y .amounts
+        → lent (x .figures) (x .money) (x .schedule) (x .amounts)
+        ≡ lent (y .figures) (y .money) (y .schedule) (y .amounts)
     same x y f m s a = rw (f, m, s, a)

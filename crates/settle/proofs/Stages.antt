@@ -14,14 +14,14 @@ use Rattle.sums.proofs.Lists.{zeros-at}
 use Rattle.sums.proofs.Keyed.{keyed-eq}
 use Rattle.sums.proofs.Fill.{filled-count, filled-by, front-at, front-long}
 use Rattle.refusals.specs.declared.Verdict.{Verdict}
-use Rattle.rows.specs.Limits.{mostAgents}
+use Rattle.rows.specs.Limits.{mostAgents, mostEnergy}
 use Rattle.merit.specs.Merit.{hourPrice}
 use Rattle.dispatch.specs.Dispatch.{Dispatched, priceOf}
 use Rattle.dispatch.proofs.Dispatched.{dispatched-plain, price-plain}
 use Rattle.hour.specs.Sheet.{Sheet, agents, plants, retails}
 use Rattle.hour.specs.Sound.{Sound}
 use Rattle.hour.specs.Balance.{lossShare, ownImport, commercial, hourDemand}
-use Rattle.hour.specs.Lines.{scheduled, price, own, contracted, bought, sold, money, figure}
+use Rattle.hour.specs.Lines.{scheduled, bolsaPrice, own, contracted, bought, sold, money, cellsPerAgent, figure}
 use Rattle.hour.proofs.Balance.{own-both}
 use Rattle.hour.proofs.Bounds.{scheduled-le, import-le, imported-le}
 use Rattle.hour.proofs.Fits.{contracted-le}
@@ -37,24 +37,33 @@ part-le h a l = omega (arith, sum-term (agents h) a (λ k. commercial h k + ownI
 module _ (h : Sheet) (ok : Sound h) where
   -- ---- plants
   module _ (n : ℕ) (e : plants h ≡ n) where
-    pub scheduled-are : (os vs : List ℕ) (d : ℕ) (before cs : List ℕ) (r : Verdict) (after : List ℕ) → os ≡ h .offers → vs ≡ h .available
+    pub scheduled-are : (os vs : List ℕ) (d : ℕ) (before cs : List ℕ) (r : Verdict) (after : List ℕ)
+        → os ≡ h .offers
+        → vs ≡ h .available
         → Covered h d (length before) cs → Dispatched os vs d before r after → Filled 0 before after n (scheduled h)
     unfolding scheduled
     scheduled-are os vs d before cs r after p q c w =
         let k : Dispatched (h .offers) (h .available) (hourDemand h) before r after = rw (p, q, c .demand) at w in
         filled-count 0 _ _ _ _ _ e
-        (dispatched-plain (h .offers) (h .available) (plants h) (ok .whole .offers) (ok .whole .available) (hourDemand h) before r after (c .enough) (c .fits) k .1)
+        (dispatched-plain (h .offers) (h .available) (plants h) (ok .whole .offers) (ok .whole .available)
+        (hourDemand h) before r after (c .enough) (c .fits) k .1)
 
     module _ (before after : List ℕ) (l : n ≤ length before) (f : Filled 0 before after n (scheduled h)) where
-      pub price-is : (os ts : List ℕ) → os ≡ h .offers → ts ≡ h .flags → priceOf os ts (take n after) ≡ price h
-      unfolding price hourPrice
+      pub price-is : (os ts : List ℕ) → os ≡ h .offers → ts ≡ h .flags → priceOf os ts (take n after) ≡ bolsaPrice h
+      unfolding bolsaPrice hourPrice
       price-is os ts p q =
           rw (p, q)
-          (price-plain (h .offers) (h .available) (plants h) (ok .whole .offers) (ok .whole .available) (h .flags) (take n after) (ok .whole .flags) (front-long _ _ _ _ f l ∙ sym e)
+          (price-plain (h .offers) (h .available) (plants h) (ok .whole .offers) (ok .whole .available) (h .flags)
+          (take n after) (ok .whole .flags) (front-long _ _ _ _ f l ∙ sym e)
           ∙ peak-eq (plants h) _ _
-          (λ i m. ap (λ (x : ℕ). pick (eqb (at (h .flags) i) 0) (pick (ltb 0 x) (at (h .offers) i))) (front-at _ _ _ _ f i (omega arith))))
+          (λ i m. ap (λ (x : ℕ). pick (eqb (at (h .flags) i) 0) (pick (ltb 0 x) (at (h .offers) i)))
+          (front-at _ _ _ _ f i (omega arith))))
 
-      pub plants-count : (ks os : List ℕ) → ks ≡ h .holders → length os ≡ mostAgents → ((a : ℕ) → a < mostAgents → at os a ≤ 3000000000) → Countable ks (take n after) os
+      pub plants-count : (ks os : List ℕ)
+          → ks ≡ h .holders
+          → length os ≡ mostAgents
+          → ((a : ℕ) → a < mostAgents → at os a ≤ 3000000000)
+          → Countable ks (take n after) os
       plants-count ks os p cells small =
           rw p
           (record {
@@ -66,26 +75,35 @@ module _ (h : Sheet) (ok : Sound h) where
             small = small;
           })
 
-      pub own-is : (ks ds os : List ℕ) → ks ≡ h .holders → Filled 0 zeros ds (agents h) (commercial h) → Tallied ks (take n after) ds os → (a : ℕ) → a < agents h
+      pub own-is : (ks ds os : List ℕ)
+          → ks ≡ h .holders
+          → Filled 0 zeros ds (agents h) (commercial h)
+          → Tallied ks (take n after) ds os
+          → (a : ℕ)
+          → a < agents h
           → at os a ≡ own h a
       own-is ks ds os p c t a m =
-          let k : at os a ≡ keyed (at (h .holders)) (at (take n after)) (plants h) a + at ds a = (rw p at t) a (omega (arith, ok .few .agents)) in
-          let s = keyed-eq (at (h .holders)) (at (h .holders)) (at (take n after)) (scheduled h) (plants h) a (λ j q. refl) (λ j q. front-at _ _ _ _ f j (omega arith)) in
+          let k : at os a ≡ keyed (at (h .holders)) (at (take n after)) (plants h) a
+          + at ds a = (rw p at t) a (omega (arith, ok .few .agents)) in
+          let s =
+          keyed-eq (at (h .holders)) (at (h .holders)) (at (take n after)) (scheduled h) (plants h) a (λ j q. refl)
+          (λ j q. front-at _ _ _ _ f j (omega arith)) in
           omega (arith, k, s, c .done a m, own-both h ok a m)
 
   -- a commercial demand is no more than the plants can deliver, and so leaves room for a schedule
   pub demand-small : (d room : ℕ) (os : List ℕ) → Covered h d room os → (a : ℕ) → a < mostAgents → at os a ≤ 3000000000
   demand-small d room os c a m = go (decLt a (agents h))
     where
-      most : sum (plants h) (at (h .available)) ≤ 4000000 * plants h
-      most = sum-most (plants h) 4000000 (at (h .available)) (λ i l. ok .plant i l .available)
+      most : sum (plants h) (at (h .available)) ≤ mostEnergy * plants h
+      most = sum-most (plants h) mostEnergy (at (h .available)) (λ i l. ok .plant i l .available)
 
       go : Dec (a < agents h) → at os a ≤ 3000000000
       go (yes l) = omega (arith, c .commercial .done a l, part-le h a l, c .enough, most, ok .few .plants)
-      go (no l) = omega (arith, c .commercial .kept a (omega arith), zeros-at 64 a)
+      go (no l) = omega (arith, c .commercial .kept a (omega arith), zeros-at mostAgents a)
 
 -- ---- the lines of n agents, from their columns
-module _ (h : Sheet) (n : ℕ) (e : agents h ≡ n) (ks ss os is cs : List ℕ) (k : (a : ℕ) → a < n → at ks a ≡ at (h .kinds) a)
+module _ (h : Sheet) (n : ℕ) (e : agents h ≡ n) (ks ss os is cs : List ℕ)
+    (k : (a : ℕ) → a < n → at ks a ≡ at (h .kinds) a)
     (s : (a : ℕ) → a < n → at ss a ≡ lossShare h a) (o : (a : ℕ) → a < n → at os a ≡ own h a)
     (i : (a : ℕ) → a < n → at is a ≡ ownImport h a) (c : (a : ℕ) → a < n → at cs a ≡ contracted h a) where
   bought-is : (a : ℕ) → a < n → buys (at ks a) (at os a) (at is a) (at cs a) ≡ bought h a
@@ -96,14 +114,21 @@ module _ (h : Sheet) (n : ℕ) (e : agents h ≡ n) (ks ss os is cs : List ℕ) 
   unfolding sold retails
   sold-is a l = rw (k a l, o a l, c a l)
 
-  pub figures-are : (before after : List ℕ) → Filled 0 before after (6 * n) (lineCell ks ss os is cs) → Filled 0 before after (6 * agents h) (figure h)
+  pub figures-are : (before after : List ℕ)
+      → Filled 0 before after (cellsPerAgent * n) (lineCell ks ss os is cs)
+      → Filled 0 before after (cellsPerAgent * agents h) (figure h)
   figures-are before after f =
-      let m : 6 * n ≡ 6 * agents h = omega arith in
+      let m : cellsPerAgent * n ≡ cellsPerAgent * agents h = omega arith in
       filled-by 0 _ _ _ _ _
-      (figure-is h _ _ _ _ _ _ (λ a q. let l : a < n = omega arith in (s a l, o a l, i a l, c a l, bought-is a l, sold-is a l)))
+      (figure-is h _ _ _ _ _ _
+      (λ a q. let l : a < n = omega arith in (s a l, o a l, i a l, c a l, bought-is a l, sold-is a l)))
       (filled-count 0 _ _ _ _ _ m f)
 
-  pub money-are : (p : ℕ) → p ≡ price h → (before after : List ℤ) → Filled (pos 0) before after n (lineMoney ks os is cs p) → Filled (pos 0) before after (agents h) (money h)
+  pub money-are : (p : ℕ)
+      → p ≡ bolsaPrice h
+      → (before after : List ℤ)
+      → Filled (pos 0) before after n (lineMoney ks os is cs p)
+      → Filled (pos 0) before after (agents h) (money h)
   unfolding money
   money-are p q before after f =
       filled-count (pos 0) _ _ _ _ _ (sym e)

@@ -17,7 +17,7 @@ use Rattle.balance.specs.Balances.{zeros}
 use Rattle.contracts.specs.Assign.{countIn, rowIn}
 use Rattle.hour.specs.Sheet.{Sheet, agents, plants, contracts}
 use Rattle.hour.specs.Balance.{commercial, demands, hourDemand}
-use Rattle.hour.specs.Lines.{scheduled, price, amount, own, contracted, moneyOf, cellOf}
+use Rattle.hour.specs.Lines.{scheduled, bolsaPrice, amount, own, contracted, moneyOf, cellsPerAgent, cellOf}
 use Rattle.hour.specs.declared.Summary.{Summary}
 
 -- ---- sums by agent, added to what stands in their cells: nothing overflows
@@ -30,7 +30,8 @@ pub record Countable (keys values before : List ℕ) : Type 0 where
   pub small : (a : ℕ) → a < mostAgents → at before a ≤ 3000000000
 
 abbrev pub Tallied : (keys values before after : List ℕ) → Type 0
-Tallied keys values before after = (a : ℕ) → a < mostAgents → at after a ≡ keyed (at keys) (at values) (length keys) a + at before a
+Tallied keys values before after =
+    (a : ℕ) → a < mostAgents → at after a ≡ keyed (at keys) (at values) (length keys) a + at before a
 
 -- ---- an agent's line, from its kind and what it has
 abbrev pub buys : (kind own import contracted : ℕ) → ℕ
@@ -39,14 +40,15 @@ buys kind own import contracted = cond (isRetailer kind) (own - contracted) (con
 abbrev pub sells : (kind own contracted : ℕ) → ℕ
 sells kind own contracted = cond (isRetailer kind) (contracted - own) (own - contracted)
 
--- six cells from k on
+-- the cells of one agent, from k on
 abbrev pub lineSet : List ℕ → (k share own import contracted bought sold : ℕ) → List ℕ
 lineSet l k s o i c b v = set (set (set (set (set (set l k s) (k + 1) o) (k + 2) i) (k + 3) c) (k + 4) b) (k + 5) v
 
 -- cell k of the figures, and the money of agent a, from the columns of all agents
 abbrev pub lineCell : (kinds shares own imports contracted : List ℕ) → ℕ → ℕ
 lineCell ks ss os is cs k =
-    cellOf (at ss) (at os) (at is) (at cs) (λ a. buys (at ks a) (at os a) (at is a) (at cs a)) (λ a. sells (at ks a) (at os a) (at cs a)) (k % 6) (k / 6)
+    cellOf (at ss) (at os) (at is) (at cs) (λ a. buys (at ks a) (at os a) (at is a) (at cs a))
+    (λ a. sells (at ks a) (at os a) (at cs a)) (k % cellsPerAgent) (k / cellsPerAgent)
 
 abbrev pub lineMoney : (kinds own imports contracted : List ℕ) → ℕ → ℕ → ℤ
 lineMoney ks os is cs price a =
@@ -58,10 +60,10 @@ turnedAway r = record { number = r .number; place = r .place; price = 0; demand 
 
 -- ---- refusals 10 and 11 behind those of the balance
 abbrev pub roomy : (agents plants contracts figures money schedule amounts : ℕ) → Bool
-roomy n p q f m s t = leb (6 * n) f && leb n m && leb p s && leb q t
+roomy n p q f m s t = leb (cellsPerAgent * n) f && leb n m && leb p s && leb q t
 
-abbrev pub judged : Verdict → (demand offered : ℕ) → Bool → Verdict
-judged v d o room = firstOf (v ∷ refusedUnless (leb d o) uncovered 0 ∷ refusedUnless room noRoom 0 ∷ [])
+abbrev pub lateVerdict : Verdict → (demand offered : ℕ) → Bool → Verdict
+lateVerdict v d o room = firstOf (v ∷ refusedUnless (leb d o) uncovered 0 ∷ refusedUnless room noRoom 0 ∷ [])
 
 -- ---- the plants of the sheet h
 
@@ -74,7 +76,7 @@ pub record Covered (h : Sheet) (d room : ℕ) (os : List ℕ) : Type 0 where
 
 -- the price, each agent's own energy, and the schedule
 pub record Generates (h : Sheet) (x : ℕ) (os before after : List ℕ) : Type 0 where
-  pub price : x ≡ price h
+  pub price : x ≡ bolsaPrice h
   pub own : (a : ℕ) → a < agents h → at os a ≡ own h a
   pub schedule : Filled 0 before after (plants h) (scheduled h)
 
@@ -89,9 +91,10 @@ pub record Holding (section amounts : List ℕ) : Type 0 where
   pub amount : (j : ℕ) → j < countIn section → at amounts j ≤ mostEnergy
 
 -- what each agent bought and what it sold under them, in one sum
-pub record Held (section amounts sums : List ℕ) : Type 0 where
+pub record HeldByAgent (section amounts sums : List ℕ) : Type 0 where
   pub each : (a : ℕ) → a < mostAgents
-      → at sums a ≡ keyed (λ j. rowIn section j .buyer) (at amounts) (countIn section) a + keyed (λ j. rowIn section j .seller) (at amounts) (countIn section) a
+      → at sums a ≡ keyed (λ j. rowIn section j .buyer) (at amounts) (countIn section) a
+      + keyed (λ j. rowIn section j .seller) (at amounts) (countIn section) a
   pub long : length sums ≡ mostAgents
 
 -- the agents' commercial demands, and a cell for each contract
@@ -103,3 +106,8 @@ pub record Demanding (h : Sheet) (ds : List ℕ) (room : ℕ) : Type 0 where
 pub record Agrees (h : Sheet) (cs before after : List ℕ) : Type 0 where
   pub contracted : Filled 0 zeros cs (agents h) (contracted h)
   pub amounts : Filled 0 before after (contracts h) (amount h)
+
+-- both, with the price x
+pub record Trades (h : Sheet) (x : ℕ) (os cs schedule₀ schedule amounts₀ amounts : List ℕ) : Type 0 where
+  pub generates : Generates h x os schedule₀ schedule
+  pub agrees : Agrees h cs amounts₀ amounts

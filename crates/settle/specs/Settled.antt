@@ -9,7 +9,7 @@ use Rattle.refusals.specs.declared.Verdict.{Verdict}
 use Rattle.sheet.specs.Reading.{readVerdict}
 use Rattle.columns.specs.Columns.{hourOf}
 use Rattle.hour.specs.Sheet.{Sheet, agents, plants, contracts}
-use Rattle.hour.specs.Lines.{scheduled, amount, money, figure}
+use Rattle.hour.specs.Lines.{scheduled, amount, money, cellsPerAgent, figure}
 use Rattle.hour.specs.Answer.{Lent, hourVerdict, summaryOf}
 use Rattle.hour.specs.declared.Summary.{Summary}
 
@@ -24,7 +24,7 @@ verdictOf bytes l = orElse (readVerdict bytes) (hourVerdict (hourOf bytes) l)
 -- were where it is a refusal
 pub record Outcome (v : Verdict) (h : Sheet) (before after : Lent) (r : Summary) : Type 0 where
   pub answered : r ≡ summaryOf v h
-  pub figures : Filled 0 (before .figures) (after .figures) (cells v (6 * agents h)) (figure h)
+  pub figures : Filled 0 (before .figures) (after .figures) (cells v (cellsPerAgent * agents h)) (figure h)
   pub money : Filled (pos 0) (before .money) (after .money) (cells v (agents h)) (money h)
   pub schedule : Filled 0 (before .schedule) (after .schedule) (cells v (plants h)) (scheduled h)
   pub amounts : Filled 0 (before .amounts) (after .amounts) (cells v (contracts h)) (amount h)

@@ -6,12 +6,12 @@ ghost use Rattle.sheet.specs.Reading.{readOf};
 ghost use Rattle.sheet.specs.declared.Reading.{Reading};
 ghost use Rattle.columns.specs.Columns.{columnsOf};
 ghost use Rattle.balance.specs.Balances.{zeros};
-ghost use Rattle.settle.specs.Parts.{Holding, Held, Demanding, Agrees};
+ghost use Rattle.settle.specs.Parts.{Holding, HeldByAgent, Demanding, Agrees};
 
 // What each agent holds of the contracts of a section, bought and sold in one sum: nobody does both.
 fn hold(section: &[u8], amounts: &[u32], held: &mut [u32])
     requires { ⌜ Holding (now section) (now amounts) × (now held ≡ zeros) ⌝ }
-    ensures { λ _. ⌜ Held (now (section .entry)) (now (amounts .entry)) (now (held .exit)) ⌝ }
+    ensures { λ _. ⌜ HeldByAgent (now (section .entry)) (now (amounts .entry)) (now (held .exit)) ⌝ }
 {
     let n = section.len() / 16;
     let mut j = 0;

@@ -3,6 +3,7 @@
 use hour::Summary;
 use refusals::Refusal;
 use refusals::Verdict;
+use rows::Agent;
 use sheet::Counts;
 
 mod agreed;
@@ -12,6 +13,7 @@ mod tally;
 
 ghost use mathlib.Core.Path.{_≡_};
 ghost use Prim.Native.Nat.{_≤_};
+ghost use lib.ListN.{length};
 ghost use Rattle.sums.specs.Sums.{sum};
 ghost use Rattle.sums.specs.Lists.{at};
 ghost use Rattle.rows.specs.Limits.{mostAgents};
@@ -19,8 +21,9 @@ ghost use Rattle.refusals.specs.declared.Verdict.{Verdict};
 ghost use Rattle.sheet.specs.Reading.{readOf};
 ghost use Rattle.sheet.specs.declared.Reading.{Reading};
 ghost use Rattle.columns.specs.Columns.{columnsOf};
-ghost use Rattle.hour.specs.Sheet.{plants};
-ghost use Rattle.settle.specs.Parts.{turnedAway, roomy, judged};
+ghost use Rattle.hour.specs.Sheet.{plants, contracts};
+ghost use Rattle.balance.specs.Balances.{zeros};
+ghost use Rattle.settle.specs.Parts.{Covered, Trades, turnedAway, roomy, lateVerdict};
 ghost use Rattle.settle.specs.Settled.{lent, Settled};
 
 fn turned_away(r: Refusal) -> Summary
@@ -40,7 +43,7 @@ fn has_room(c: Counts, figures: usize, money: usize, schedule: usize, amounts: u
     requires { ⌜ c .agents ≤ mostAgents ⌝ }
     ensures { λ r. ⌜ r ≡ roomy (c .agents) (c .plants) (c .contracts) figures money schedule amounts ⌝ }
 {
-    (6 * c.agents <= figures)
+    (hour::CELLS_PER_AGENT * c.agents <= figures)
         & (c.agents <= money)
         & (c.plants <= schedule)
         & (c.contracts <= amounts)
@@ -49,7 +52,7 @@ fn has_room(c: Counts, figures: usize, money: usize, schedule: usize, amounts: u
 // Refusals 1 to 9 as weighing has them, then 10, then 11.
 fn judge(bytes: &[u8], c: Counts, weighed: Verdict, demand: u32, room: bool) -> Verdict
     requires { ⌜ (weighed ≡ Verdict.Fine → readOf (now bytes) ≡ Reading.Accepted c) ⌝ }
-    ensures { λ r. ⌜ r ≡ judged weighed demand (sum (plants (columnsOf (now (bytes .entry)) c)) (at (columnsOf (now (bytes .entry)) c .available))) room ⌝ }
+    ensures { λ r. ⌜ r ≡ lateVerdict weighed demand (sum (plants (columnsOf (now (bytes .entry)) c)) (at (columnsOf (now (bytes .entry)) c .available))) room ⌝ }
 {
     let Verdict::Fine = weighed else {
         return weighed;
@@ -61,6 +64,27 @@ fn judge(bytes: &[u8], c: Counts, weighed: Verdict, demand: u32, room: bool) -> 
         return Verdict::Fine;
     }
     refusals::refuse(Refusal::ROOM, 0)
+}
+
+// Amounts and schedule into the lent lists, what each agent holds under contract and its own energy into its columns: own energy has
+// the commercial demands to begin with. The bolsa price is handed back.
+fn trade(
+    bytes: &[u8],
+    c: Counts,
+    demand: u32,
+    own: &mut [u32],
+    contracted: &mut [u32],
+    schedule: &mut [u32],
+    amounts: &mut [u32],
+) -> u32
+    requires { ⌜ readOf (now bytes) ≡ Reading.Accepted c ⌝ }
+    requires { ⌜ Covered (columnsOf (now bytes) c) demand (length (now schedule)) (now own) ⌝ }
+    requires { ⌜ (contracts (columnsOf (now bytes) c) ≤ length (now amounts)) × (now contracted ≡ zeros) ⌝ }
+    ensures { λ r. ⌜ Trades (columnsOf (now (bytes .entry)) c) r (now (own .exit)) (now (contracted .exit)) (now (schedule .entry)) (now (schedule .exit)) (now (amounts .entry)) (now (amounts .exit)) ⌝ }
+{
+    let n = c.agents;
+    agreed::agree(bytes, c, &own[..n], amounts, contracted);
+    plants::generate(bytes, c, demand, schedule, own)
 }
 
 // Settles the hour of a sheet, for every string of bytes and lists of every length.
@@ -82,11 +106,17 @@ pub fn settle(
     if let Verdict::Refused(r) = verdict {
         return turned_away(r);
     }
-    let commercial = b.commercial;
-    let mut own = commercial;
-    let price = plants::generate(bytes, c, demand, schedule, &mut own);
-    let mut contracted = [0u32; 64];
-    agreed::agree(bytes, c, &commercial[..n], amounts, &mut contracted);
+    let mut own = b.commercial;
+    let mut contracted = [0u32; Agent::MOST];
+    let price = trade(
+        bytes,
+        c,
+        demand,
+        &mut own,
+        &mut contracted,
+        schedule,
+        amounts,
+    );
     lines::write_lines(
         &b.kinds,
         &b.shares,
@@ -102,7 +132,7 @@ pub fn settle(
         number: 0,
         place: 0,
         price,
-        demand,
+        demand: b.demand,
         losses: b.losses,
     }
 }

@@ -1,4 +1,5 @@
-// The agent's line: six cells and the money.
+// The agent's line: its figures and its money.
+use hour::CELLS_PER_AGENT;
 use rows::Agent;
 ghost use mathlib.Core.Path.{_≡_};
 ghost use Prim.Native.Nat.{ℕ, _+_, _-_, _*_, _/_, _%_, _≤_, _<_};
@@ -6,7 +7,7 @@ ghost use lib.IntN.{ℤ, pos};
 ghost use lib.ListN.{length};
 ghost use Rattle.sums.specs.Lists.{at, Filled};
 ghost use Rattle.rows.specs.Limits.{mostAgents, mostPrice};
-ghost use Rattle.hour.specs.Lines.{moneyOf};
+ghost use Rattle.hour.specs.Lines.{moneyOf, cellsPerAgent};
 ghost use Rattle.settle.specs.Parts.{buys, sells, lineSet, lineCell, lineMoney};
 
 // A retailer buys the demand that contracts don't cover; a generator buys its shortfall, and its own import besides.
@@ -40,7 +41,7 @@ fn owed(sold: u32, bought: u32, price: u32) -> i64
     (sold as i64 - bought as i64) * price as i64
 }
 
-// Six cells of the figures from k on.
+// The cells of one agent in the figures, from k on.
 fn write_line(
     k: usize,
     share: u32,
@@ -51,7 +52,7 @@ fn write_line(
     sold: u32,
     figures: &mut [u32],
 )
-    requires { ⌜ k + 6 ≤ length (now figures) ⌝ }
+    requires { ⌜ k + cellsPerAgent ≤ length (now figures) ⌝ }
     ensures { λ _. ⌜ now (figures .exit) ≡ lineSet (now (figures .entry)) k share own import contracted bought sold ⌝ }
 {
     figures[k] = share;
@@ -64,19 +65,19 @@ fn write_line(
 
 // The lines and the money of n agents.
 pub(crate) fn write_lines<'a>(
-    kinds: &'a [u32; 64],
-    shares: &'a [u32; 64],
-    own: &[u32; 64],
-    imports: &'a [u32; 64],
-    contracted: &[u32; 64],
+    kinds: &'a [u32; Agent::MOST],
+    shares: &'a [u32; Agent::MOST],
+    own: &[u32; Agent::MOST],
+    imports: &'a [u32; Agent::MOST],
+    contracted: &[u32; Agent::MOST],
     n: usize,
     price: u32,
     figures: &mut [u32],
     money: &mut [i64],
 )
-    requires { ⌜ (n ≤ mostAgents) × (6 * n ≤ length (now figures)) × (n ≤ length (now money)) × (price ≤ mostPrice) ⌝ }
+    requires { ⌜ (n ≤ mostAgents) × (cellsPerAgent * n ≤ length (now figures)) × (n ≤ length (now money)) × (price ≤ mostPrice) ⌝ }
     requires { ⌜ ((a : ℕ) → a < n → at (now contracted) a - at (now own) a + at (now imports) a ≤ 4294967295) ⌝ }
-    ensures { λ _. ⌜ Filled 0 (now (figures .entry)) (now (figures .exit)) (6 * n) (lineCell (now (kinds .entry)) (now (shares .entry)) (now (own .entry)) (now (imports .entry)) (now (contracted .entry))) ⌝ }
+    ensures { λ _. ⌜ Filled 0 (now (figures .entry)) (now (figures .exit)) (cellsPerAgent * n) (lineCell (now (kinds .entry)) (now (shares .entry)) (now (own .entry)) (now (imports .entry)) (now (contracted .entry))) ⌝ }
     ensures { λ _. ⌜ Filled (pos 0) (now (money .entry)) (now (money .exit)) n (lineMoney (now (kinds .entry)) (now (own .entry)) (now (imports .entry)) (now (contracted .entry)) price) ⌝ }
 {
     let mut a = 0;
@@ -84,7 +85,7 @@ pub(crate) fn write_lines<'a>(
         let buys = bought(kinds[a], own[a], imports[a], contracted[a]);
         let sells = sold(kinds[a], own[a], contracted[a]);
         write_line(
-            6 * a,
+            CELLS_PER_AGENT * a,
             shares[a],
             own[a],
             imports[a],

@@ -1,5 +1,6 @@
 // The plants of an accepted sheet: what they offer together, their schedule, and what it comes to by agent.
 use crate::tally;
+use rows::Plant;
 use sheet::Counts;
 ghost use mathlib.Core.Path.{_≡_};
 ghost use Prim.Native.Nat.{ℕ, _≤_, _<_};
@@ -73,10 +74,10 @@ pub(crate) fn generate(
     ensures { λ r. ⌜ Generates (columnsOf (now (bytes .entry)) c) r (now (own .exit)) (now (schedule .entry)) (now (schedule .exit)) ⌝ }
 {
     let n = c.plants;
-    let mut holders = [0u32; 64];
-    let mut flags = [0u32; 64];
-    let mut offers = [0u32; 64];
-    let mut available = [0u32; 64];
+    let mut holders = [0u32; Plant::MOST];
+    let mut flags = [0u32; Plant::MOST];
+    let mut offers = [0u32; Plant::MOST];
+    let mut available = [0u32; Plant::MOST];
     columns(
         bytes,
         c,

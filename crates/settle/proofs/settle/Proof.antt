@@ -1,3 +1,5 @@
+-- Everything is judged before anything is written. The verdict is the hour's; a refusal leaves the lists as they were, and where there
+-- is none, what weighing and trading hand on is the sheet's own, so that the lines are too.
 use borrow.Author.Needs.{needs}
 use native.Mathlib.Omega.{arith}
 use Prim.Native.Nat.{ℕ, _≤_, _<_, _+_, _-_}
@@ -5,9 +7,10 @@ use mathlib.Core.Bool.{Bool}
 use mathlib.Core.List.{List}
 use mathlib.Core.Path.{_≡_, refl, _∙_, sym, ap}
 use Rattle.refusals.specs.declared.Verdict.{Verdict}
+use Rattle.rows.specs.Limits.{mostAgents}
 use Rattle.sums.specs.Sums.{sum}
 use Rattle.sums.specs.Lists.{at}
-use Rattle.sums.proofs.Fill.{filled-count, front-fits, front-long}
+use Rattle.sums.proofs.Fill.{filled-count}
 use Rattle.columns.specs.Columns.{columnsOf}
 use Rattle.columns.proofs.Columns.{agents-long, sound}
 use Rattle.hour.specs.Sheet.{Sheet, agents, plants}
@@ -16,130 +19,199 @@ use Rattle.hour.specs.Lines.{own, contracted}
 use Rattle.hour.specs.Answer.{Lent}
 use Rattle.hour.proofs.Bounds.{price-le}
 use Rattle.balance.proofs.Weighed.{weighed-accepted, weighed-few}
-use Rattle.settle.specs.Parts.{judged}
+use Rattle.settle.specs.Parts.{lateVerdict}
 use Rattle.settle.specs.Settled.{lent, verdictOf}
 use Rattle.settle.proofs.Stages.{figures-are, money-are, lines-fit}
-use Rattle.settle.proofs.Judged.{verdict-is, Open, opened, sheet-is, demands-are, turned-away}
+use Rattle.settle.proofs.Judged.{verdict-is, Open, opened, sheet-is, turned-away}
 use Rattle.settle.proofs.settle.Statement.{statement}
 use Rattle.settle.proofs.settle.Tie as tie
 
-abbrev sheet : tie.After-weigh → Sheet
-sheet c = columnsOf (c .before .before .before .before .before .args .bytes .now) (c .weigh .result .counts)
+-- ways back: X-to-Y leads from the place X of the code to the earlier place Y
+abbrev weigh-to-start : tie.After-weigh → tie.Start
+weigh-to-start c = c .before .before .before .before .before
+
+abbrev judge-to-weigh : tie.After-judge → tie.After-weigh
+judge-to-weigh c = c .before .before .before
+
+abbrev judge-to-start : tie.After-judge → tie.Start
+judge-to-start c = weigh-to-start (c .before .before .before)
+
+abbrev enum-told-to-weigh : tie.After-enum-told → tie.After-weigh
+enum-told-to-weigh c = c .before .before .before .before .before
+
+abbrev enum-told-to-start : tie.After-enum-told → tie.Start
+enum-told-to-start c = judge-to-start (c .before .before)
+
+abbrev trade-arg2-to-enum-told : tie.After-trade-arg2 → tie.After-enum-told
+trade-arg2-to-enum-told c = c .before .before .before .before .before
+
+abbrev trade-arg2-to-weigh : tie.After-trade-arg2 → tie.After-weigh
+trade-arg2-to-weigh c = enum-told-to-weigh (trade-arg2-to-enum-told c)
+
+abbrev trade-to-enum-told : tie.After-trade → tie.After-enum-told
+trade-to-enum-told c = trade-arg2-to-enum-told (c .before)
+
+abbrev trade-to-weigh : tie.After-trade → tie.After-weigh
+trade-to-weigh c = trade-arg2-to-weigh (c .before)
+
+abbrev b-to-trade : tie.After-b → tie.After-trade
+b-to-trade c = c .before .before .before .before .before .before .before
+
+abbrev write-lines-arg5-to-trade : tie.After-write-lines-arg5 → tie.After-trade
+write-lines-arg5-to-trade c = b-to-trade (c .before .before .before .before .before .before .before)
+
+abbrev write-lines-arg5-to-enum-told : tie.After-write-lines-arg5 → tie.After-enum-told
+write-lines-arg5-to-enum-told c = trade-to-enum-told (write-lines-arg5-to-trade c)
+
+abbrev write-lines-arg5-to-weigh : tie.After-write-lines-arg5 → tie.After-weigh
+write-lines-arg5-to-weigh c = enum-told-to-weigh (write-lines-arg5-to-enum-told c)
+
+abbrev bytes : tie.Start → List ℕ
+bytes c = c .args .bytes .now
 
 abbrev lists : tie.Start → Lent
 lists c = let a = c .args in lent (a .figures .now) (a .money .now) (a .schedule .now) (a .amounts .now)
 
+abbrev sheet : tie.After-weigh → Sheet
+sheet c = columnsOf (bytes (weigh-to-start c)) (c .weigh .result .counts)
+
 count : (c : tie.After-weigh) → agents (sheet c) ≡ c .weigh .result .counts .agents
 count c = agents-long _ _
 
-few : (c : tie.After-weigh) → c .weigh .result .counts .agents ≤ 64
+few : (c : tie.After-weigh) → c .weigh .result .counts .agents ≤ mostAgents
 few c = weighed-few _ _ (c .weigh .ensures)
 
-verdict : (c : tie.After-judge) → c .judge .result ≡ verdictOf ((c .before .before .before .before .before .before .before .before) .args .bytes .now) (lists (c .before .before .before .before .before .before .before .before))
-verdict c =
-    c .judge .ensures
-    ∙ ap (λ (x : Bool). judged ((c .before .before .before) .weigh .result .verdict) ((c .before .before .before) .weigh .result .demand) (sum (plants (sheet (c .before .before .before))) (at (sheet (c .before .before .before) .available))) x) ((c .before) .has-room .ensures)
-    ∙ verdict-is _ (lists (c .before .before .before .before .before .before .before .before)) _ ((c .before .before .before) .weigh .ensures)
-
-returns : tie.Need-returns
-returns c =
-    rw (c .turned-away .ensures)
-    (turned-away (verdictOf ((c .before .before .before .before .before .before .before .before .before .before .before .before) .args .bytes .now) (lists (c .before .before .before .before .before .before .before .before .before .before .before .before))) _ _ _ (sym (verdict (c .before .before .before .before)) ∙ (c .before .before) .verdict .given .1))
-
-fine : (c : tie.After-enum-told) → verdictOf ((c .before .before .before .before .before .before .before .before .before .before) .args .bytes .now) (lists (c .before .before .before .before .before .before .before .before .before .before)) ≡ Verdict.Fine
-fine c = sym (verdict (c .before .before)) ∙ c .enum-told .given .1
-
-clear : (c : tie.After-enum-told) → Open ((c .before .before .before .before .before .before .before .before .before .before) .args .bytes .now) (lists (c .before .before .before .before .before .before .before .before .before .before)) ((c .before .before .before .before .before) .weigh .result) ((c .before .before .before .before .before) .weigh .ensures)
-clear c = opened _ _ _ _ (fine c)
-
-ok : (c : tie.After-enum-told) → Sound (sheet (c .before .before .before .before .before))
-ok c = sound _ _ (clear c .read)
-
--- what stands in the columns of own energy and of contracts
-abbrev energy : tie.After-generate → List ℕ
-energy c = c .generate .last .1 .1 .1 .1 .0
-
-abbrev held : tie.After-agree → List ℕ
-held c = c .agree .last .1 .1 .1 .1 .0
-
-owns : (c : tie.After-generate) (a : ℕ) → a < (c .before .before .before .before .before .before .before .before .before) .weigh .result .counts .agents → at (energy c) a ≡ own (sheet (c .before .before .before .before .before .before .before .before .before)) a
-owns c a l = c .generate .ensures .own a (omega (arith, count (c .before .before .before .before .before .before .before .before .before)))
-
-holds : (c : tie.After-agree) (a : ℕ) → a < (c .before .before .before .before .before .before .before .before .before .before .before .before .before .before .before .before) .weigh .result .counts .agents → at (held c) a ≡ contracted (sheet (c .before .before .before .before .before .before .before .before .before .before .before .before .before .before .before .before)) a
-holds c a l = c .agree .ensures .contracted .done a (omega (arith, count (c .before .before .before .before .before .before .before .before .before .before .before .before .before .before .before .before)))
-
-returns-2 : tie.Need-returns-2
-returns-2 c =
-    let w = clear (c .before .before .before .before .before .before .before .before .before .before .before .before .before .before .before .before .before .before .before .before .before .before .before .before .before .before) in
-    let b = (c .before .before .before .before .before .before .before .before .before .before .before .before .before .before .before .before .before .before .before .before .before .before .before .before .before .before .before .before .before .before .before) .weigh .result in
-    let g = (c .before .before .before .before .before .before .before .before .before .before .before .before .before .before .before .before .before .before .before .before .before .before) .generate .ensures in
-    let o = energy (c .before .before .before .before .before .before .before .before .before .before .before .before .before .before .before .before .before .before .before .before .before .before) in
-    let k = held (c .before .before .before .before .before .before .before .before .before .before .before .before .before .before .before) in
-    let h = sheet (c .before .before .before .before .before .before .before .before .before .before .before .before .before .before .before .before .before .before .before .before .before .before .before .before .before .before .before .before .before .before .before) in
-    let f = figures-are h _ (count (c .before .before .before .before .before .before .before .before .before .before .before .before .before .before .before .before .before .before .before .before .before .before .before .before .before .before .before .before .before .before .before)) (b .kinds) (b .shares) o (b .imports) k (w .kinds .done) (w .shares .done) (owns (c .before .before .before .before .before .before .before .before .before .before .before .before .before .before .before .before .before .before .before .before .before .before)) (w .imports .done) (holds (c .before .before .before .before .before .before .before .before .before .before .before .before .before .before .before)) in
-    let m = money-are h _ (count (c .before .before .before .before .before .before .before .before .before .before .before .before .before .before .before .before .before .before .before .before .before .before .before .before .before .before .before .before .before .before .before)) (b .kinds) (b .shares) o (b .imports) k (w .kinds .done) (w .shares .done) (owns (c .before .before .before .before .before .before .before .before .before .before .before .before .before .before .before .before .before .before .before .before .before .before)) (w .imports .done) (holds (c .before .before .before .before .before .before .before .before .before .before .before .before .before .before .before)) in
-    let l = (c .before .before .before) .write-lines .ensures in
-    rw (fine (c .before .before .before .before .before .before .before .before .before .before .before .before .before .before .before .before .before .before .before .before .before .before .before .before .before .before), ← sheet-is _ (lists (c .before .before .before .before .before .before .before .before .before .before .before .before .before .before .before .before .before .before .before .before .before .before .before .before .before .before .before .before .before .before .before .before .before .before .before .before)) b ((c .before .before .before .before .before .before .before .before .before .before .before .before .before .before .before .before .before .before .before .before .before .before .before .before .before .before .before .before .before .before .before) .weigh .ensures) (fine (c .before .before .before .before .before .before .before .before .before .before .before .before .before .before .before .before .before .before .before .before .before .before .before .before .before .before)))
-    (record {
-      answered = rw (← g .price, ← w .demand, ← w .losses);
-      figures = f _ _ (l .0);
-      money = m _ (g .price) _ _ (l .1);
-      schedule = g .schedule;
-      amounts = (c .before .before .before .before .before .before .before .before .before .before .before .before .before .before .before) .agree .ensures .amounts;
-    })
-
-fits : (c : tie.After-agree) (a : ℕ) → a < (c .before .before .before .before .before .before .before .before .before .before .before .before .before .before .before .before) .weigh .result .counts .agents → at (held c) a - at (energy (c .before .before .before .before .before .before .before)) a + at ((c .before .before .before .before .before .before .before .before .before .before .before .before .before .before .before .before) .weigh .result .imports) a ≤ 4294967295
-fits c =
-    let w = clear (c .before .before .before .before .before .before .before .before .before .before .before) in
-    let b = (c .before .before .before .before .before .before .before .before .before .before .before .before .before .before .before .before) .weigh .result in
-    lines-fit (sheet (c .before .before .before .before .before .before .before .before .before .before .before .before .before .before .before .before)) _ (count (c .before .before .before .before .before .before .before .before .before .before .before .before .before .before .before .before)) (b .kinds) (b .shares) (energy (c .before .before .before .before .before .before .before)) (b .imports) (held c) (w .kinds .done) (w .shares .done) (owns (c .before .before .before .before .before .before .before)) (w .imports .done) (holds c) (ok (c .before .before .before .before .before .before .before .before .before .before .before))
-
+-- ---- the verdict
 has-room-requires : tie.Need-has-room-requires
 has-room-requires c κs = few (c .before)
 
 judge-requires : tie.Need-judge-requires
 judge-requires c κs = weighed-accepted _ _ ((c .before .before) .weigh .ensures)
 
-enum-told : tie.Need-enum-told
-enum-told c = search needs
+verdict : (c : tie.After-judge) → c .judge .result ≡ verdictOf (bytes (judge-to-start c)) (lists (judge-to-start c))
+verdict c =
+    let b = judge-to-weigh c .weigh .result in
+    c .judge .ensures
+    ∙ ap (λ (x : Bool). lateVerdict (b .verdict) (b .demand)
+    (sum (plants (sheet (judge-to-weigh c))) (at (sheet (judge-to-weigh c) .available))) x)
+    ((c .before) .has-room .ensures)
+    ∙ verdict-is _ (lists (judge-to-start c)) _ (judge-to-weigh c .weigh .ensures)
 
-generate-requires : tie.Need-generate-requires
-generate-requires c κs =
-    let o = clear (c .before .before .before) in
-    (o .read, record { demand = o .demand; enough = o .cover; fits = o .room .schedule; commercial = filled-count 0 _ _ _ _ _ (sym (count (c .before .before .before .before .before .before .before .before))) (o .commercial) })
+returns : tie.Need-returns
+returns c =
+    let at-judge = c .before .before .before .before in
+    let at-shared-slice-known = at-judge .before .before .before .before .before .before .before in
+    let at-start = at-shared-slice-known .before in
+    rw (c .turned-away .ensures)
+    (turned-away (verdictOf (bytes at-start) (lists at-start)) _ _ _
+    (sym (verdict at-judge) ∙ (c .before .before) .verdict .given .1))
 
-array-share-prefix-commercial : tie.Need-array-share-prefix-commercial
-array-share-prefix-commercial c = front-fits _ _ _ _ (clear (c .before .before .before .before .before .before .before) .commercial) (few (c .before .before .before .before .before .before .before .before .before .before .before .before))
+-- ---- an hour that nothing turns away
+fine : (c : tie.After-enum-told)
+    → verdictOf (bytes (enum-told-to-start c)) (lists (enum-told-to-start c)) ≡ Verdict.Fine
+fine c = sym (verdict (c .before .before)) ∙ c .enum-told .given .1
 
-slice-aggregate-agree : tie.Need-slice-aggregate-agree
-slice-aggregate-agree c = sym (front-long _ _ _ _ (clear (c .before .before .before .before .before .before .before .before) .commercial) (few (c .before .before .before .before .before .before .before .before .before .before .before .before .before)))
+clear : (c : tie.After-enum-told)
+    → Open (bytes (enum-told-to-start c)) (lists (enum-told-to-start c)) (enum-told-to-weigh c .weigh .result)
+    (enum-told-to-weigh c .weigh .ensures)
+clear c = opened _ _ _ _ (fine c)
 
-agree-requires : tie.Need-agree-requires
-agree-requires c κs =
-    let o = clear (c .before .before .before .before .before .before .before .before .before .before) in (
+ok : (c : tie.After-enum-told) → Sound (sheet (enum-told-to-weigh c))
+ok c = sound _ _ (clear c .read)
+
+trade-requires : tie.Need-trade-requires
+trade-requires c κs =
+    let o = clear (trade-arg2-to-enum-told c) in (
       o .read,
       (
         record {
-          demands = demands-are (sheet (c .before .before .before .before .before .before .before .before .before .before .before .before .before .before .before)) _ _ (count (c .before .before .before .before .before .before .before .before .before .before .before .before .before .before .before)) (few (c .before .before .before .before .before .before .before .before .before .before .before .before .before .before .before)) (o .commercial);
-          fits = o .room .amounts;
+          demand = o .demand;
+          enough = o .cover;
+          fits = o .room .schedule;
+          commercial = filled-count 0 _ _ _ _ _ (sym (count (trade-arg2-to-weigh c))) (o .commercial);
         },
-        refl,
+        (o .room .amounts, refl),
       ),
     )
 
+-- what stands in the columns of own energy and of contracts
+abbrev energy : tie.After-trade → List ℕ
+energy c = c .trade .last .1 .1 .1 .0
+
+abbrev held : tie.After-trade → List ℕ
+held c = c .trade .last .1 .1 .1 .1 .0
+
+owns : (c : tie.After-trade) (a : ℕ)
+    → a < trade-to-weigh c .weigh .result .counts .agents
+    → at (energy c) a ≡ own (sheet (trade-to-weigh c)) a
+owns c a l = c .trade .ensures .generates .own a (omega (arith, count (trade-to-weigh c)))
+
+holds : (c : tie.After-trade) (a : ℕ)
+    → a < trade-to-weigh c .weigh .result .counts .agents
+    → at (held c) a ≡ contracted (sheet (trade-to-weigh c)) a
+holds c a l = c .trade .ensures .agrees .contracted .done a (omega (arith, count (trade-to-weigh c)))
+
+fits : (c : tie.After-trade) (a : ℕ)
+    → a < trade-to-weigh c .weigh .result .counts .agents
+    → at (held c) a - at (energy c) a + at (trade-to-weigh c .weigh .result .imports) a ≤ 4294967295
+fits c =
+    let w = clear (trade-to-enum-told c) in
+    let b = trade-to-weigh c .weigh .result in
+    lines-fit (sheet (trade-to-weigh c)) _ (count (trade-to-weigh c)) (b .kinds) (b .shares) (energy c) (b .imports)
+    (held c) (w .kinds .done) (w .shares .done) (owns c) (w .imports .done) (holds c) (ok (trade-to-enum-told c))
+
 write-lines-requires : tie.Need-write-lines-requires
 write-lines-requires c κs =
-    let n = count (c .before .before .before .before .before .before .before .before .before .before .before .before .before .before .before .before .before .before .before .before .before .before .before .before .before .before .before) in
-    let room = clear (c .before .before .before .before .before .before .before .before .before .before .before .before .before .before .before .before .before .before .before .before .before .before) .room in
-    ((few (c .before .before .before .before .before .before .before .before .before .before .before .before .before .before .before .before .before .before .before .before .before .before .before .before .before .before .before), omega (arith, n, room .figures), omega (arith, n, room .money), omega (arith, (c .before .before .before .before .before .before .before .before .before .before .before .before .before .before .before .before .before .before) .generate .ensures .price, price-le _ (ok (c .before .before .before .before .before .before .before .before .before .before .before .before .before .before .before .before .before .before .before .before .before .before)))), fits (c .before .before .before .before .before .before .before .before .before .before .before))
+    let n = count (write-lines-arg5-to-weigh c) in
+    let room = clear (write-lines-arg5-to-enum-told c) .room in (
+      (
+        few (write-lines-arg5-to-weigh c),
+        omega (arith, n, room .figures),
+        omega (arith, n, room .money),
+        omega (
+          arith,
+          write-lines-arg5-to-trade c .trade .ensures .generates .price,
+          price-le _ (ok (write-lines-arg5-to-enum-told c)),
+        ),
+      ),
+      fits (write-lines-arg5-to-trade c),
+    )
 
-same-length-3 : tie.Need-same-length-3
-same-length-3 c = (c .before .before .before .before .before .before .before .before .before .before .before .before .before .before .before .before .before .before .before .before .before .before) .generate .ensures .schedule .long
+-- the lines that were written are the sheet's
+returns-2 : tie.Need-returns-2
+returns-2 c =
+    let at-write-lines = c .before .before .before in
+    let at-write-lines-arg = at-write-lines .before .before .before .before .before .before .before in
+    let at-own3 = at-write-lines-arg .before .before .before .before .before .before .before in
+    let at-trade = at-own3 .before in
+    let at-enum-told = at-trade .before .before .before .before .before .before in
+    let at-weigh = at-enum-told .before .before .before .before .before in
+    let at-start = at-weigh .before .before .before .before .before in
+    let w = clear at-enum-told in
+    let b = at-weigh .weigh .result in
+    let t = at-trade .trade .ensures in
+    let o = energy at-trade in
+    let k = held at-trade in
+    let h = sheet at-weigh in
+    let f =
+    figures-are h _ (count at-weigh) (b .kinds) (b .shares) o (b .imports) k (w .kinds .done) (w .shares .done)
+    (owns at-trade) (w .imports .done) (holds at-trade) in
+    let m =
+    money-are h _ (count at-weigh) (b .kinds) (b .shares) o (b .imports) k (w .kinds .done) (w .shares .done)
+    (owns at-trade) (w .imports .done) (holds at-trade) in
+    let l = at-write-lines .write-lines .ensures in
+    rw (fine at-enum-told, ← sheet-is _ (lists at-start) b (at-weigh .weigh .ensures) (fine at-enum-told))
+    (record {
+      answered = rw (← t .generates .price, ← w .demand, ← w .losses);
+      figures = f _ _ (l .0);
+      money = m _ (t .generates .price) _ _ (l .1);
+      schedule = t .generates .schedule;
+      amounts = t .agrees .amounts;
+    })
 
 pub settle-spec : {M : Type 1} → statement M
 settle-spec =
     tie.close
     (tie.spec (λ c κs. search needs) has-room-requires judge-requires (λ c. search needs) (λ c κs. search needs)
-    returns enum-told (λ c. search needs) generate-requires array-share-prefix-commercial slice-aggregate-agree
-    (λ c. search needs) agree-requires write-lines-requires (λ c. search needs) (λ c. search needs) same-length-3
-    (λ c. search needs) returns-2)
+    returns (λ c. search needs) (λ c. search needs) (λ c. search needs) trade-requires write-lines-requires
+    (λ c. search needs) (λ c. search needs) (λ c. search needs) (λ c. search needs) returns-2)

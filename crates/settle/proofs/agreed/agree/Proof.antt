@@ -18,6 +18,31 @@ use Rattle.settle.proofs.Holdings.{amounts-are, holding, contracted-are
 use Rattle.settle.proofs.agreed.agree.Statement.{statement}
 use Rattle.settle.proofs.agreed.agree.Tie as tie
 
+-- ways back: X-to-Y leads from the place X of the code to the earlier place Y
+abbrev struct-known-to-start : tie.After-struct-known → tie.Start
+struct-known-to-start c = c .before .before .before .before .before
+
+abbrev struct-known2-to-start : tie.After-struct-known2 → tie.Start
+struct-known2-to-start c = struct-known-to-start (c .before)
+
+abbrev struct-known3-to-start : tie.After-struct-known3 → tie.Start
+struct-known3-to-start c = struct-known2-to-start (c .before)
+
+abbrev assign-to-start : tie.After-assign → tie.Start
+assign-to-start c = struct-known3-to-start (c .before .before .before)
+
+abbrev hold-arg2-to-assign : tie.After-hold-arg2 → tie.After-assign
+hold-arg2-to-assign c = c .before .before .before .before
+
+abbrev hold-arg2-to-start : tie.After-hold-arg2 → tie.Start
+hold-arg2-to-start c = assign-to-start (c .before .before .before .before)
+
+abbrev slice-known4-to-assign : tie.After-slice-known4 → tie.After-assign
+slice-known4-to-assign c = c .before .before .before .before .before .before .before
+
+abbrev slice-known4-to-start : tie.After-slice-known4 → tie.Start
+slice-known4-to-start c = hold-arg2-to-start (c .before .before .before)
+
 abbrev sheet : tie.Start → Sheet
 sheet c = columnsOf (c .args .bytes .now) (c .args .c)
 
@@ -36,39 +61,49 @@ section c =
 is : (c : tie.Start) → section c ≡ stretch (c .args .bytes .now) (contractStart (c .args .c)) (c .args .c .contracts)
 is c = rw add-sub-cancel-left
 
-filled : (c : tie.After-assign) → Filled 0 ((c .before .before .before .before .before .before .before .before .before .before) .args .amounts .now) (c .assign .last .1 .1 .0) ((c .before .before .before .before .before .before .before .before .before .before) .args .c .contracts) (amount (sheet (c .before .before .before .before .before .before .before .before .before .before)))
-filled c = amounts-are _ _ ((c .before .before .before .before .before .before .before .before .before .before) .pre .0) (section (c .before .before .before .before .before .before .before .before .before .before)) (is (c .before .before .before .before .before .before .before .before .before .before)) _ _ (room (c .before .before .before .before .before .before .before .before .before .before)) _ _ ((c .before .before .before .before .before .before .before .before .before .before) .pre .1 .0 .demands) (c .assign .ensures)
+filled : (c : tie.After-assign)
+    → Filled 0 (assign-to-start c .args .amounts .now) (c .assign .last .1 .1 .0)
+    (assign-to-start c .args .c .contracts) (amount (sheet (assign-to-start c)))
+filled c =
+    amounts-are _ _ (assign-to-start c .pre .0) (section (assign-to-start c)) (is (assign-to-start c)) _ _
+    (room (assign-to-start c)) _ _ (assign-to-start c .pre .1 .0 .demands) (c .assign .ensures)
 
 add-start : tie.Need-add-start
-add-start c = omega (arith, accepted-few _ _ ((c .before .before .before .before .before) .pre .0))
+add-start c = omega (arith, accepted-few _ _ (struct-known-to-start c .pre .0))
 
 add-start-2 : tie.Need-add-start-2
-add-start-2 c = omega (arith, accepted-few _ _ ((c .before .before .before .before .before .before) .pre .0))
+add-start-2 c = omega (arith, accepted-few _ _ (struct-known2-to-start c .pre .0))
 
 mul-start : tie.Need-mul-start
-mul-start c = omega (arith, accepted-few _ _ ((c .before .before .before .before .before .before) .pre .0))
+mul-start c = omega (arith, accepted-few _ _ (struct-known2-to-start c .pre .0))
 
 mul-end : tie.Need-mul-end
-mul-end c = omega (arith, accepted-few _ _ ((c .before .before .before .before .before .before .before) .pre .0))
+mul-end c = omega (arith, accepted-few _ _ (struct-known3-to-start c .pre .0))
 
 add-end : tie.Need-add-end
-add-end c = omega (arith, accepted-few _ _ ((c .before .before .before .before .before .before .before) .pre .0))
+add-end c = omega (arith, accepted-few _ _ (struct-known3-to-start c .pre .0))
 
 part-section-end : tie.Need-part-section-end
-part-section-end c = omega (arith, accepted-length _ _ ((c .before .before .before .before .before .before .before) .pre .0))
+part-section-end c = omega (arith, accepted-length _ _ (struct-known3-to-start c .pre .0))
 
 hold-requires : tie.Need-hold-requires
-hold-requires c κs = (holding _ _ ((c .before .before .before .before .before .before .before .before .before .before .before .before .before .before) .pre .0) (section (c .before .before .before .before .before .before .before .before .before .before .before .before .before .before)) (is (c .before .before .before .before .before .before .before .before .before .before .before .before .before .before)) _ _ (room (c .before .before .before .before .before .before .before .before .before .before .before .before .before .before)) (filled (c .before .before .before .before)), (c .before .before .before .before .before .before .before .before .before .before .before .before .before .before) .pre .1 .1)
+hold-requires c κs = (
+  holding _ _ (hold-arg2-to-start c .pre .0) (section (hold-arg2-to-start c)) (is (hold-arg2-to-start c)) _ _
+      (room (hold-arg2-to-start c)) (filled (hold-arg2-to-assign c)),
+  hold-arg2-to-start c .pre .1 .1,
+)
 
 same-length-2 : tie.Need-same-length-2
-same-length-2 c = (c .before .before) .hold .ensures .long ∙ sym (ap length ((c .before .before .before .before .before .before .before .before .before .before .before .before .before .before .before .before .before) .pre .1 .1))
+same-length-2 c = (c .before .before) .hold .ensures .long ∙ sym (ap length (slice-known4-to-start c .pre .1 .1))
 
 returns : tie.Need-returns
 returns c =
-    let f = filled (c .before .before .before .before .before .before .before) in
+    let f = filled (slice-known4-to-assign c) in
     record {
-      contracted = contracted-are _ _ ((c .before .before .before .before .before .before .before .before .before .before .before .before .before .before .before .before .before) .pre .0) (section (c .before .before .before .before .before .before .before .before .before .before .before .before .before .before .before .before .before)) (is (c .before .before .before .before .before .before .before .before .before .before .before .before .before .before .before .before .before)) _ _ (room (c .before .before .before .before .before .before .before .before .before .before .before .before .before .before .before .before .before)) f _ ((c .before .before) .hold .ensures);
-      amounts = filled-count 0 _ _ _ _ _ (sym (count (c .before .before .before .before .before .before .before .before .before .before .before .before .before .before .before .before .before))) f;
+      contracted =
+          contracted-are _ _ (slice-known4-to-start c .pre .0) (section (slice-known4-to-start c))
+          (is (slice-known4-to-start c)) _ _ (room (slice-known4-to-start c)) f _ ((c .before .before) .hold .ensures);
+      amounts = filled-count 0 _ _ _ _ _ (sym (count (slice-known4-to-start c))) f;
     }
 
 pub agree-spec : {M : Type 1} → statement M

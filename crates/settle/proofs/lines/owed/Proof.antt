@@ -17,16 +17,20 @@ sub-result c =
     (diff-fits (a .sold) (a .bought) (omega arith) (omega arith))
 
 -- what the code works out is the money of the paper
-is : (c : tie.Start) → toZ w64 (ofZ w64 (toZ w64 (c .args .sold) -ℤ toZ w64 (c .args .bought))) *ℤ toZ w64 (c .args .price) ≡ moneyOf (c .args .sold) (c .args .bought) (c .args .price)
+is : (c : tie.Start)
+    → toZ w64 (ofZ w64 (toZ w64 (c .args .sold) -ℤ toZ w64 (c .args .bought))) *ℤ toZ w64 (c .args .price)
+    ≡ moneyOf (c .args .sold) (c .args .bought) (c .args .price)
 unfolding moneyOf
 is c =
     let a = c .args in
     ap₂ _*ℤ_
-    (toZ-ofZ w64 _ (sub-result c) ∙ ap₂ _-ℤ_ (toZ-pos w64 (a .sold) (omega arith)) (toZ-pos w64 (a .bought) (omega arith)))
+    (toZ-ofZ w64 _ (sub-result c)
+    ∙ ap₂ _-ℤ_ (toZ-pos w64 (a .sold) (omega arith)) (toZ-pos w64 (a .bought) (omega arith)))
     (toZ-pos w64 (a .price) (omega arith))
 
 mul-result : tie.Need-mul-result
-mul-result c = rw (is c) (money-fits (c .args .sold) (c .args .bought) (c .args .price) (omega arith) (omega arith) (omega arith))
+mul-result c =
+    rw (is c) (money-fits (c .args .sold) (c .args .bought) (c .args .price) (omega arith) (omega arith) (omega arith))
 
 returns : tie.Need-returns
 returns c = toZ-ofZ w64 _ (mul-result c) ∙ is c

@@ -1,46 +1,80 @@
 use borrow.Author.Needs.{needs}
 use native.Mathlib.Omega.{arith}
-use Prim.Native.Nat.{ℕ, _≤_, _-_, _*_}
+use Prim.Native.Nat.{ℕ, _≤_, _+_, _-_, _*_}
 use mathlib.Core.Path.{_≡_, _∙_, ap₂}
 use lib.IntN.{pos}
+use lib.ListN.{length}
 use mir.Syntax.{w64}
 use mir.ValLaws.{toZ-ofZ}
 use Rattle.sums.specs.Lists.{Filled}
 use Rattle.sums.proofs.Fill.{filled-none, filled-more}
-use Rattle.hour.specs.Lines.{moneyOf}
+use Rattle.hour.specs.Lines.{moneyOf, cellsPerAgent}
 use Rattle.settle.specs.Parts.{lineCell, lineMoney}
 use Rattle.settle.proofs.OneLine.{line-more}
 use Rattle.settle.proofs.lines.write_lines.Statement.{statement}
 use Rattle.settle.proofs.lines.write_lines.Tie as tie
 
 abbrev Inv-loop : tie.InvT-loop
-Inv-loop kinds shares own imports contracted n price figures₀ money₀ a₀ figures money a = (a ≤ n) × Filled 0 figures₀ figures (6 * a) (lineCell kinds shares own imports contracted) × Filled (pos 0) money₀ money a (lineMoney kinds own imports contracted price)
+Inv-loop kinds shares own imports contracted n price figures₀ money₀ a₀ figures money a =
+    (a ≤ n) × Filled 0 figures₀ figures (cellsPerAgent * a) (lineCell kinds shares own imports contracted)
+    × Filled (pos 0) money₀ money a (lineMoney kinds own imports contracted price)
 
 abbrev μ-loop : tie.MeasureT-loop
 μ-loop kinds shares own imports contracted n price figures₀ money₀ a₀ figures money a = n - a
+
+-- ways back: X-to-Y leads from the place X of the code to the earlier place Y
+abbrev bought-arg4-to-loop : tie.After-bought-arg4 Inv-loop μ-loop → tie.At-loop Inv-loop μ-loop
+bought-arg4-to-loop c = c .before .before .before .before .before
+
+abbrev bought-arg4-to-start : tie.After-bought-arg4 Inv-loop μ-loop → tie.Start Inv-loop μ-loop
+bought-arg4-to-start c = bought-arg4-to-loop c .before .before
+
+abbrev sold-arg2-to-loop : tie.After-sold-arg2 Inv-loop μ-loop → tie.At-loop Inv-loop μ-loop
+sold-arg2-to-loop c = bought-arg4-to-loop (c .before .before .before)
+
+abbrev write-line-arg5-to-loop : tie.After-write-line-arg5 Inv-loop μ-loop → tie.At-loop Inv-loop μ-loop
+write-line-arg5-to-loop c = sold-arg2-to-loop (c .before .before .before .before .before .before .before)
+
+abbrev owed-to-loop : tie.After-owed Inv-loop μ-loop → tie.At-loop Inv-loop μ-loop
+owed-to-loop c = write-line-arg5-to-loop (c .before .before .before .before)
+
+abbrev owed-to-start : tie.After-owed Inv-loop μ-loop → tie.Start Inv-loop μ-loop
+owed-to-start c = owed-to-loop c .before .before
 
 loop-holds : tie.Need-loop-holds Inv-loop μ-loop
 loop-holds c = (search needs, filled-none 0 _ _, filled-none (pos 0) _ _)
 
 bought-requires : tie.Need-bought-requires Inv-loop μ-loop
-bought-requires c κs = (c .before .before .before .before .before .before .before) .pre .1 ((c .before .before .before .before .before) .loop .a) (omega arith)
+bought-requires c κs = bought-arg4-to-start c .pre .1 (bought-arg4-to-loop c .loop .a) (omega arith)
 
 write-line-requires : tie.Need-write-line-requires Inv-loop μ-loop
-write-line-requires c κs = omega (arith, (c .before .before .before .before .before .before .before .before .before .before .before .before .before .before .before) .loop .inv .1 .long)
+write-line-requires c κs = omega (arith, write-line-arg5-to-loop c .loop .inv .1 .long)
 
 slice-set-from-m : tie.Need-slice-set-from-m Inv-loop μ-loop
-slice-set-from-m c = omega (arith, (c .before .before .before .before .before .before .before .before .before .before .before .before .before .before .before .before .before .before .before) .loop .inv .2 .long)
+slice-set-from-m c = omega (arith, owed-to-loop c .loop .inv .2 .long)
+
+-- at the end of a turn: there is a row more, and the lists have room for it
+under : (c : tie.After-owed Inv-loop μ-loop) → owed-to-loop c .loop .a + 1 ≤ owed-to-start c .args .n
+under c = omega arith
+
+room : (c : tie.After-owed Inv-loop μ-loop)
+    → cellsPerAgent * owed-to-loop c .loop .a + cellsPerAgent ≤ length (owed-to-start c .args .figures .now)
+room c = omega arith
 
 loop-again : tie.Need-loop-again Inv-loop μ-loop
 loop-again c =
-    let l = (c .before .before .before .before .before .before .before .before .before .before .before .before .before .before .before .before .before .before .before) .loop in
+    let at-write-line = c .before .before .before in
+    let at-sold = at-write-line .before .before .before .before .before .before in
+    let at-bought = at-sold .before .before .before .before in
+    let l = owed-to-loop c .loop in
     let m = c .owed in
-    let b = (c .before .before .before .before .before .before .before .before .before .before .before .before .before) .bought .ensures in
-    let s = (c .before .before .before .before .before .before .before .before .before) .sold .ensures in (
-      search needs,
-      rw ((c .before .before .before) .write-line .ensures, b, s) (line-more _ _ _ _ _ _ _ (l .a) (omega arith) (l .figures) (l .inv .1)),
-      filled-more (pos 0) _ (l .money) (l .a) _ _ (omega arith)
-          (toZ-ofZ w64 (m .result) (record { sfits = m .ok }) ∙ m .ensures ∙ ap₂ (λ (x y : ℕ). moneyOf x y ((c .before .before .before .before .before .before .before .before .before .before .before .before .before .before .before .before .before .before .before .before .before) .args .price)) s b)
+    let b = at-bought .bought .ensures in
+    let s = at-sold .sold .ensures in (
+      under c,
+      rw (at-write-line .write-line .ensures, b, s) (line-more _ _ _ _ _ _ _ (l .a) (room c) (l .figures) (l .inv .1)),
+      filled-more (pos 0) _ (l .money) (l .a) _ _ (slice-set-from-m c)
+          (toZ-ofZ w64 (m .result) (record { sfits = m .ok }) ∙ m .ensures
+          ∙ ap₂ (λ (x y : ℕ). moneyOf x y (owed-to-start c .args .price)) s b)
           (l .inv .2),
     )
 
@@ -51,7 +85,10 @@ same-length-2 : tie.Need-same-length-2 Inv-loop μ-loop
 same-length-2 c = (c .before) .loop .inv .2 .long
 
 returns : tie.Need-returns Inv-loop μ-loop
-returns c = let e : (c .before) .loop .a ≡ (c .before .before .before) .args .n = omega arith in (rw e at ((c .before) .loop .inv .1), rw e at ((c .before) .loop .inv .2))
+returns c =
+    let at-start = c .before .before .before in
+    let e : (c .before) .loop .a ≡ at-start .args .n = omega arith in
+    (rw e at ((c .before) .loop .inv .1), rw e at ((c .before) .loop .inv .2))
 
 pub write-lines-spec : {M : Type 1} → statement M
 write-lines-spec =

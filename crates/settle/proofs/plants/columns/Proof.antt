@@ -21,22 +21,38 @@ Inv-loop bytes holders₀ flags₀ offers₀ available₀ start n i₀ holders f
 abbrev μ-loop : tie.MeasureT-loop
 μ-loop bytes holders₀ flags₀ offers₀ available₀ start n i₀ holders flags offers available i = n - i
 
+-- ways back: X-to-Y leads from the place X of the code to the earlier place Y
+abbrev struct-known-to-start : tie.After-struct-known Inv-loop μ-loop → tie.Start Inv-loop μ-loop
+struct-known-to-start c = c .before .before .before .before .before .before
+
+abbrev in-loop-to-start : tie.In-loop Inv-loop μ-loop → tie.Start Inv-loop μ-loop
+in-loop-to-start c = struct-known-to-start (c .before .before)
+
+abbrev plant-of-to-loop : tie.After-plant-of Inv-loop μ-loop → tie.At-loop Inv-loop μ-loop
+plant-of-to-loop c = c .before .before .before
+
+abbrev plant-of-to-start : tie.After-plant-of Inv-loop μ-loop → tie.Start Inv-loop μ-loop
+plant-of-to-start c = in-loop-to-start (c .before .before)
+
 -- the row that was read
-is : (c : tie.After-plant-of Inv-loop μ-loop) → c .plant-of .result ≡ plantOf (wordsAt ((c .before .before .before .before .before .before .before .before .before .before) .args .bytes .now) ((c .before .before .before .before .before .before .before .before .before .before) .args .c .agents + (c .before .before .before .before .before .before .before .before .before .before) .args .c .boundaries + (c .before .before .before) .loop .i))
+is : (c : tie.After-plant-of Inv-loop μ-loop)
+    → c .plant-of .result ≡ plantOf
+    (wordsAt (plant-of-to-start c .args .bytes .now)
+    (plant-of-to-start c .args .c .agents + plant-of-to-start c .args .c .boundaries + plant-of-to-loop c .loop .i))
 is c = cc
 
 add-start : tie.Need-add-start Inv-loop μ-loop
-add-start c = omega (arith, accepted-few _ _ ((c .before .before .before .before .before .before) .pre .0))
+add-start c = omega (arith, accepted-few _ _ (struct-known-to-start c .pre .0))
 
 loop-holds : tie.Need-loop-holds Inv-loop μ-loop
 loop-holds c = (search needs, filled-none 0 _ _, filled-none 0 _ _, filled-none 0 _ _, filled-none 0 _ _)
 
 add-row-at : tie.Need-add-row-at Inv-loop μ-loop
-add-row-at c = omega (arith, accepted-few _ _ ((c .before .before .before .before .before .before .before .before) .pre .0))
+add-row-at c = omega (arith, accepted-few _ _ (in-loop-to-start c .pre .0))
 
 loop-again : tie.Need-loop-again Inv-loop μ-loop
 loop-again c =
-    let l = (c .before .before .before) .loop in (
+    let l = plant-of-to-loop c .loop in (
       search needs,
       filled-more 0 _ (l .holders) (l .i) _ _ (omega arith) (ap (λ (p : Plant). p .agent) (is c)) (l .inv .1),
       filled-more 0 _ (l .flags) (l .i) _ _ (omega arith) (ap (λ (p : Plant). p .inflexible) (is c)) (l .inv .2),
@@ -46,7 +62,9 @@ loop-again c =
 
 returns : tie.Need-returns Inv-loop μ-loop
 returns c =
-    let e : (c .before) .loop .i ≡ (c .before .before .before .before .before .before .before .before) .args .c .plants = omega arith in
+    let at-shared-slice-known = c .before .before .before .before .before .before .before in
+    let at-start = at-shared-slice-known .before in
+    let e : (c .before) .loop .i ≡ at-start .args .c .plants = omega arith in
     let l = (c .before) .loop .inv in
     (rw e at (l .1), rw e at (l .2), rw e at (l .3), rw e at (l .4))
 

@@ -2,6 +2,7 @@ use borrow.Author.Needs.{needs}
 use native.Mathlib.Omega.{arith}
 use Prim.Native.Nat.{_≤_, _-_, _+_}
 use mathlib.Core.Path.{_≡_, ap, _∙_, sym}
+use Rattle.rows.specs.Limits.{mostEnergy}
 use Rattle.rows.specs.Bytes.{wordsAt}
 use Rattle.rows.specs.Rows.{plantOf}
 use Rattle.rows.specs.declared.Plant.{Plant}
@@ -13,13 +14,18 @@ use Rattle.settle.proofs.plants.offered.Statement.{statement}
 use Rattle.settle.proofs.plants.offered.Tie as tie
 
 abbrev Inv-loop : tie.InvT-loop
-Inv-loop bytes start n sum₀ i₀ total i = (i ≤ n) × (total ≡ sum i (λ j. plantOf (wordsAt bytes (start + j)) .availability))
+Inv-loop bytes start n sum₀ i₀ total i =
+    (i ≤ n) × (total ≡ sum i (λ j. plantOf (wordsAt bytes (start + j)) .availability))
 
 abbrev μ-loop : tie.MeasureT-loop
 μ-loop bytes start n sum₀ i₀ total i = n - i
 
 -- the row that was read
-is : (c : tie.After-plant-of Inv-loop μ-loop) → c .plant-of .result ≡ plantOf (wordsAt ((c .before .before .before .before .before .before) .args .bytes .now) ((c .before .before .before .before .before .before) .args .c .agents + (c .before .before .before .before .before .before) .args .c .boundaries + (c .before .before .before) .loop .i))
+is : (c : tie.After-plant-of Inv-loop μ-loop)
+    → c .plant-of .result ≡ plantOf
+    (wordsAt ((c .before .before .before .before .before .before) .args .bytes .now)
+    ((c .before .before .before .before .before .before) .args .c .agents
+    + (c .before .before .before .before .before .before) .args .c .boundaries + (c .before .before .before) .loop .i))
 is c = cc
 
 add-start : tie.Need-add-start Inv-loop μ-loop
@@ -38,8 +44,12 @@ add-sum c =
     omega (
       arith,
       ap (λ (p : Plant). p .availability) (is ((c .before))),
-      accepted-plant _ _ ((c .before .before .before .before .before .before .before) .pre) (l .i) (omega arith) .fits .availability,
-      sum-most (l .i) 4000000 (λ j. plantOf (wordsAt (a .bytes .now) (a .c .agents + a .c .boundaries + j)) .availability) (λ j m. accepted-plant _ _ ((c .before .before .before .before .before .before .before) .pre) j (omega arith) .fits .availability),
+      accepted-plant _ _ ((c .before .before .before .before .before .before .before) .pre) (l .i)
+          (omega arith) .fits .availability,
+      sum-most (l .i) mostEnergy
+          (λ j. plantOf (wordsAt (a .bytes .now) (a .c .agents + a .c .boundaries + j)) .availability)
+          (λ j m. accepted-plant _ _ ((c .before .before .before .before .before .before .before) .pre) j
+          (omega arith) .fits .availability),
       accepted-few _ _ ((c .before .before .before .before .before .before .before) .pre),
     )
 
@@ -58,7 +68,9 @@ loop-again c =
 returns : tie.Need-returns Inv-loop μ-loop
 returns c =
     let e : (c .before) .loop .i ≡ (c .before .before .before .before) .args .c .plants = omega arith in
-    rw (plants-long ((c .before .before .before .before) .args .bytes .now) ((c .before .before .before .before) .args .c)) ((rw e at ((c .before) .loop .inv .1)) ∙ sum-eq _ _ _ (λ i l. sym (available-at _ _ i l)))
+    rw (plants-long ((c .before .before .before .before) .args .bytes .now)
+    ((c .before .before .before .before) .args .c))
+    ((rw e at ((c .before) .loop .inv .1)) ∙ sum-eq _ _ _ (λ i l. sym (available-at _ _ i l)))
 
 pub offered-spec : {M : Type 1} → statement M
 offered-spec =
