@@ -1,0 +1,16 @@
+use Prim.Native.Nat.{_-_, _≤_}
+use borrow.Author.Needs.{needs}
+use Rattle.calls.proofs.run_all.Statement.{statement}
+use Rattle.calls.proofs.run_all.Tie as tie
+
+abbrev Inv-loop : tie.InvT-loop
+Inv-loop s rows at₀ case₀ at case = (case ≤ at) × (at ≤ 8193) × (rows ≤ 4096)
+
+abbrev μ-loop : tie.MeasureT-loop
+μ-loop s rows at₀ case₀ at case = 8193 - at
+
+pub run-all-spec : {M : Type 1} → statement M
+run-all-spec =
+    tie.close
+    (tie.spec Inv-loop μ-loop (λ c. search needs) (λ c. search needs) (λ c κs. search needs) (λ c κs. search needs)
+    (λ c. search needs) (λ c. search needs) (λ c. search needs) (λ c. search needs) (λ c. search needs))
