@@ -4,7 +4,7 @@
  *     cc -Wall -Wextra -Werror -Iinclude examples/hour.c target/staticlib/libcapi.a -o target/hour
  *     target/hour examples/worked-hour.sheet
  *
- * The exit status is 0 for a settled hour, 1 for a refused one and 2 where the file could not be read.
+ * The exit status is 0 for a settled hour, 1 for a refused one and 2 where the file could not be read or the output not written.
  */
 #include <stdio.h>
 
@@ -36,6 +36,15 @@ static void print_page(size_t length) {
     }
 }
 
+/* The status that was meant, if all that was printed could be written. */
+static int finish(int status) {
+    if (fflush(stdout) != 0 || ferror(stdout)) {
+        perror("hour: standard output");
+        return 2;
+    }
+    return status;
+}
+
 int main(int count, char **words) {
     size_t length = 0;
     if (count != 2) {
@@ -56,7 +65,7 @@ int main(int count, char **words) {
         NAOMHRAL_SCHEDULE_MOST, amounts, NAOMHRAL_AMOUNTS_MOST, summary, NAOMHRAL_SUMMARY);
     if (refusal != NAOMHRAL_SETTLED) {
         printf("not settled: refusal %u at place %u\n", (unsigned)summary[0], (unsigned)summary[1]);
-        return 1;
+        return finish(1);
     }
 
     uint32_t counts[NAOMHRAL_READ_ANSWER];
@@ -69,5 +78,5 @@ int main(int count, char **words) {
     }
     printf("settled: %u agents, %u centavos per kWh, %lld centavos change hands on the bolsa\n", (unsigned)counts[2],
         (unsigned)summary[2], owed);
-    return 0;
+    return finish(0);
 }

@@ -39,7 +39,7 @@
 #define NAOMHRAL_WRITE_ANSWER 3
 #define NAOMHRAL_PAGE_ANSWER 3
 
-/* The refusals. */
+/* The refusals. Number 12 of docs/USING.md, a row or section that isn't there, comes from none of these functions. */
 enum {
     NAOMHRAL_SETTLED = 0,
     NAOMHRAL_BAD_LENGTH = 1,
@@ -52,8 +52,7 @@ enum {
     NAOMHRAL_BAD_GAIN = 8,
     NAOMHRAL_UNSHARED = 9,
     NAOMHRAL_UNCOVERED = 10,
-    NAOMHRAL_NO_ROOM = 11,
-    NAOMHRAL_NOT_THERE = 12
+    NAOMHRAL_NO_ROOM = 11
 };
 
 #ifdef __cplusplus

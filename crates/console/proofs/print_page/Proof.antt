@@ -7,8 +7,8 @@ use lib.ListN.{length, replicate}
 use lib.Seq.{length-take-le}
 use Rattle.page.specs.Page.{pageText}
 use Rattle.page.proofs.Paged.{done-fits}
-use Rattle.desk.proofs.print_page.Statement.{statement}
-use Rattle.desk.proofs.print_page.Tie as tie
+use Rattle.console.proofs.print_page.Statement.{statement}
+use Rattle.console.proofs.print_page.Tie as tie
 
 -- what was printed lies within the buffer
 within : (c : tie.After-printed) → c .printed .given .0 .0 ≤ length ((c .before .before .before) .page .last .1 .0)

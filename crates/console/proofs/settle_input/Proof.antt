@@ -4,8 +4,8 @@ use lib.ListN.{length}
 use lib.Seq.{length-take-le}
 use Rattle.input.specs.Input.{Within}
 use Rattle.input.specs.declared.Input.{Input}
-use Rattle.desk.proofs.main.Statement.{statement}
-use Rattle.desk.proofs.main.Tie as tie
+use Rattle.console.proofs.settle_input.Statement.{statement}
+use Rattle.console.proofs.settle_input.Tie as tie
 
 within : (c : tie.After-got) → Within (Input.Bytes (c .got .given .0 .0)) (length ((c .before .before .before) .read-all .last .0))
 within c = rw (c .got .given .1) at ((c .before .before .before) .read-all .ensures)
@@ -16,8 +16,8 @@ array-share-prefix-sheet c = within (c .before)
 slice-aggregate-print-page : tie.Need-slice-aggregate-print-page
 slice-aggregate-print-page c = sym (length-take-le _ _ (within (c .before .before)))
 
-pub main-spec : {M : Type 1} → statement M
-main-spec =
+pub settle-input-spec : {M : Type 1} → statement M
+settle-input-spec =
     tie.close
     (tie.spec (λ c. search needs) (λ c κs. search needs) (λ c. search needs) (λ c. search needs) (λ c κs. search needs)
     (λ c. search needs) array-share-prefix-sheet slice-aggregate-print-page (λ c κs. search needs) (λ c. search needs)
