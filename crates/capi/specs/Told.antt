@@ -17,13 +17,10 @@ use Rattle.columns.specs.Columns.{hourOf}
 use Rattle.hour.specs.Answer.{Lent, summaryOf}
 use Rattle.hour.specs.declared.Summary.{Summary}
 use Rattle.settle.specs.Settled.{verdictOf, Outcome}
-use Rattle.printing.specs.Page.{printed}
-use Rattle.printing.specs.declared.Printed.{Printed}
 use Rattle.page.specs.Page.{pageText}
 use Rattle.writing.specs.Numbers.{Numbers, countsIn}
 use Rattle.writing.specs.Words.{sheetRow}
-use Rattle.writing.specs.Judged.{writeVerdict, writing}
-use Rattle.writing.specs.declared.Writing.{Writing}
+use Rattle.writing.specs.Judged.{writeVerdict}
 
 -- sharing: the refusal's number, 0 where all is fine (its place is always 0), and the shares
 pub record ShareTold (amount : ℕ) (weights before : List ℕ) (r : ℕ) (after : List ℕ) : Type 0 where
@@ -43,34 +40,34 @@ readAnswer (Reading.Refused r) = r .number ∷ r .place ∷ 0 ∷ 0 ∷ 0 ∷ 0 
 abbrev pub ReadTold : (sheet before : List ℕ) → ℕ → (after : List ℕ) → Type 0
 ReadTold sheet = Told 6 (readAnswer (readOf sheet))
 
--- writing: number, place, and the length written, 0 where refused; and the sheet's bytes
-abbrev pub writeAnswer : Writing → List ℕ
-writeAnswer (Writing.Done n) = 0 ∷ 0 ∷ n ∷ []
-writeAnswer (Writing.Refused r) = r .number ∷ r .place ∷ 0 ∷ []
+-- bytes put into a lent buffer: number, place, and the length written, 0 where refused; and the bytes
+abbrev pub lengthAnswer : Verdict → (size : ℕ) → List ℕ
+lengthAnswer Verdict.Fine size = 0 ∷ 0 ∷ size ∷ []
+lengthAnswer (Verdict.Refused r) size = r .number ∷ r .place ∷ 0 ∷ []
 
-pub record WriteTold (n : Numbers) (bytes list : List ℕ) (r : ℕ) (bytes′ list′ : List ℕ) : Type 0 where
-  pub told : Told 3 (writeAnswer (writing (writeVerdict n (length bytes)) (sheetLength (countsIn n)))) list r list′
-  pub sheet : Filled 0 bytes bytes′ (cond (leb 3 (length list)) (cells (writeVerdict n (length bytes)) (sheetLength (countsIn n))) 0) (byteOf (sheetRow n))
+pub record BytesTold (v : Verdict) (size : ℕ) (byte : ℕ → ℕ) (before list : List ℕ) (r : ℕ)
+    (after list′ : List ℕ) : Type 0 where
+  pub told : Told 3 (lengthAnswer v size) list r list′
+  pub bytes : Filled 0 before after (cond (leb 3 (length list)) (cells v size) 0) byte
+
+-- writing: the bytes of the sheet
+abbrev pub WriteTold : (n : Numbers) (before list : List ℕ) → ℕ → (after list′ : List ℕ) → Type 0
+WriteTold n before = BytesTold (writeVerdict n (length before)) (sheetLength (countsIn n)) (byteOf (sheetRow n)) before
+
+-- the page: the bytes of its text
+abbrev pub PageTold : (sheet before list : List ℕ) → ℕ → (after list′ : List ℕ) → Type 0
+PageTold sheet before =
+    BytesTold (refusedUnless (leb (length (pageText sheet)) (length before)) noRoom 0) (length (pageText sheet))
+    (at (pageText sheet)) before
 
 -- settling: number, place, price, demand and losses; and the four lent lists as `settle` leaves them
 abbrev pub summaryAnswer : Summary → List ℕ
 summaryAnswer s = s .number ∷ s .place ∷ s .price ∷ s .demand ∷ s .losses ∷ []
 
-abbrev pub judged : (sheet : List ℕ) (before : Lent) (list : List ℕ) → Verdict
-judged sheet before list = cond (leb 5 (length list)) (verdictOf sheet before) (refused noRoom 0)
+abbrev pub summaryVerdict : (sheet : List ℕ) (before : Lent) (list : List ℕ) → Verdict
+summaryVerdict sheet before list = cond (leb 5 (length list)) (verdictOf sheet before) (refused noRoom 0)
 
 pub record SettleTold (sheet : List ℕ) (before after : Lent) (list : List ℕ) (r : ℕ) (list′ : List ℕ) : Type 0 where
   pub told : Told 5 (summaryAnswer (summaryOf (verdictOf sheet before) (hourOf sheet))) list r list′
-  pub hour : Outcome (judged sheet before list) (hourOf sheet) before after (summaryOf (judged sheet before list) (hourOf sheet))
-
--- the page: number, place, and the length written, 0 where refused; and the page's bytes
-abbrev pub pageAnswer : Printed → List ℕ
-pageAnswer (Printed.Done n) = 0 ∷ 0 ∷ n ∷ []
-pageAnswer (Printed.Refused r) = r .number ∷ r .place ∷ 0 ∷ []
-
-abbrev pub pageVerdict : (sheet : List ℕ) (room : ℕ) → Verdict
-pageVerdict sheet room = refusedUnless (leb (length (pageText sheet)) room) noRoom 0
-
-pub record PageTold (sheet bytes list : List ℕ) (r : ℕ) (bytes′ list′ : List ℕ) : Type 0 where
-  pub told : Told 3 (pageAnswer (printed (pageVerdict sheet (length bytes)) (length (pageText sheet)))) list r list′
-  pub page : Filled 0 bytes bytes′ (cond (leb 3 (length list)) (cells (pageVerdict sheet (length bytes)) (length (pageText sheet))) 0) (at (pageText sheet))
+  pub hour : Outcome (summaryVerdict sheet before list) (hourOf sheet) before after
+      (summaryOf (summaryVerdict sheet before list) (hourOf sheet))

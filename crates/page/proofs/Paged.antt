@@ -13,7 +13,7 @@ use Rattle.sums.proofs.Fill.{filled-front}
 use Rattle.refusals.specs.Refusals.{noRoom, refusedUnless, orElse}
 use Rattle.refusals.specs.declared.Refusal.{Refusal}
 use Rattle.refusals.specs.declared.Verdict.{Verdict}
-use Rattle.rows.specs.Limits.{mostAgents}
+use Rattle.rows.specs.Limits.{mostAgents, mostPlants, mostContracts}
 use Rattle.sheet.specs.Reading.{readVerdict, countsOf, readOf, reading}
 use Rattle.sheet.specs.Asking.{agentAt}
 use Rattle.sheet.specs.declared.Counts.{Counts}
@@ -25,33 +25,46 @@ use Rattle.hour.specs.declared.Summary.{Summary}
 use Rattle.columns.specs.Columns.{columnsOf, hourOf}
 use Rattle.columns.proofs.Columns.{agents-long, plants-long, contracts-long}
 use Rattle.hour.proofs.Verdicts.{room-fine}
-use Rattle.sheet.proofs.Accepted.{Few, accepted-few}
-use Rattle.refusals.proofs.Fine.{else-fine, fine-left}
-use Rattle.printing.proofs.Length.{page-short}
+use Rattle.sheet.proofs.Accepted.{Few}
+use Rattle.refusals.proofs.Fine.{else-fine}
 use Rattle.columns.proofs.Numbers.{Between, read-between, balance-between, cover-between}
 use Rattle.settle.specs.Settled.{lent, verdictOf, Settled}
 use Rattle.printing.specs.Page.{pageOf, printVerdict, printed}
 use Rattle.printing.specs.declared.Printed.{Printed}
-use Rattle.page.specs.Page.{verdictFor, pageText}
+use Rattle.printing.proofs.Printing.{one-outcome as printed-once}
+use Rattle.page.specs.Page.{verdictFor, pageText, PrintsAll}
 use Rattle.page.specs.Refused.{refusedSummary}
 
--- lists of at most 64 agents are refused only for want of room
-pub print-fine : (kinds figures : List ℕ) (m : List ℤ) (size room : ℕ) → length kinds ≤ mostAgents → 6 * length kinds ≤ length figures → length kinds ≤ length m
+-- the lists of a sheet's agents are refused only for want of room
+pub print-fine : (kinds figures : List ℕ) (m : List ℤ) (size room : ℕ)
+    → length kinds ≤ mostAgents
+    → 6 * length kinds ≤ length figures
+    → length kinds ≤ length m
     → printVerdict kinds figures m size room ≡ refusedUnless (leb size room) noRoom 0
 unfolding printVerdict
 print-fine kinds figures m size room h f k =
-    rw (le-leb (length kinds) mostAgents h, le-leb (6 * length kinds) (length figures) f, le-leb (length kinds) (length m) k) (else-fine (refusedUnless (leb size room) noRoom 0))
+    rw (
+      le-leb (length kinds) mostAgents h,
+      le-leb (6 * length kinds) (length figures) f,
+      le-leb (length kinds) (length m) k,
+    ) (else-fine (refusedUnless (leb size room) noRoom 0))
 
 -- the lists do not matter to the page of a refusal
-pub refused-same : (r : Summary) (k f k′ f′ : List ℕ) (m m′ : List ℤ) → (r .number ≡ 0 → ⊥) → pageOf r k f m ≡ pageOf r k′ f′ m′
+pub refused-same : (r : Summary) (k f k′ f′ : List ℕ) (m m′ : List ℤ)
+    → (r .number ≡ 0 → ⊥)
+    → pageOf r k f m ≡ pageOf r k′ f′ m′
 unfolding pageOf
 refused-same r k f k′ f′ m m′ h = rw (ne-eqb (r .number) 0 h)
 
-same-lists : (r : Summary) (k f k′ f′ : List ℕ) (m m′ : List ℤ) → k ≡ k′ → f ≡ f′ → m ≡ m′ → pageOf r k f m ≡ pageOf r k′ f′ m′
+same-lists : (r : Summary) (k f k′ f′ : List ℕ) (m m′ : List ℤ)
+    → k ≡ k′
+    → f ≡ f′
+    → m ≡ m′
+    → pageOf r k f m ≡ pageOf r k′ f′ m′
 same-lists r k f k′ f′ m m′ p q s = cc
 
 -- fine, or refused with a number above 0
-Told : Verdict → Type 0
+unfoldable pub Told : Verdict → Type 0
 Told v = (q : Refusal) → v ≡ Verdict.Refused q → q .number ≡ 0 → ⊥
 
 told : (lo hi : ℕ) (v : Verdict) → 0 < lo → Between lo hi v → Told v
@@ -64,34 +77,45 @@ unfolding Told
 told-or Verdict.Fine w p q = q
 told-or (Verdict.Refused r) w p q = p
 
-told-all : (bytes : List ℕ) → Told (verdictFor bytes)
+pub told-all : (bytes : List ℕ) → Told (verdictFor bytes)
 unfolding Told verdictFor
 told-all bytes =
     let h = hourOf bytes in
-    told-or (readVerdict bytes) (orElse (balanceVerdict h) (orElse (coverVerdict h) Verdict.Fine)) (told 1 6 (readVerdict bytes) (omega arith) (read-between bytes))
-    (told-or (balanceVerdict h) (orElse (coverVerdict h) Verdict.Fine) (told 7 9 (balanceVerdict h) (omega arith) (balance-between h))
+    told-or (readVerdict bytes) (orElse (balanceVerdict h) (orElse (coverVerdict h) Verdict.Fine))
+    (told 1 6 (readVerdict bytes) (omega arith) (read-between bytes))
+    (told-or (balanceVerdict h) (orElse (coverVerdict h) Verdict.Fine)
+    (told 7 9 (balanceVerdict h) (omega arith) (balance-between h))
     (told-or (coverVerdict h) Verdict.Fine (told 10 10 (coverVerdict h) (omega arith) (cover-between h))
     (λ q e z. let no : _≡_ {A = ℕ} 0 1 = cc in omega arith)))
 
 -- a sheet that reading refuses
-pub refused-read : (bytes : List ℕ) (q : Refusal) → readOf bytes ≡ Reading.Refused q → pageText bytes ≡ pageOf (refusedSummary q) [] [] []
+pub refused-read : (bytes : List ℕ) (q : Refusal)
+    → readOf bytes ≡ Reading.Refused q
+    → pageText bytes ≡ pageOf (refusedSummary q) [] [] []
 unfolding pageText verdictFor readOf Told
 refused-read bytes q e = go (readVerdict bytes) refl e
   where
-    go : (v : Verdict) → readVerdict bytes ≡ v → reading v (countsOf bytes) ≡ Reading.Refused q → pageText bytes ≡ pageOf (refusedSummary q) [] [] []
+    go : (v : Verdict)
+        → readVerdict bytes ≡ v
+        → reading v (countsOf bytes) ≡ Reading.Refused q
+        → pageText bytes ≡ pageOf (refusedSummary q) [] [] []
     go Verdict.Fine f h = let no : _≡_ {A = ℕ} 0 1 = cc in absurd (omega arith)
     go (Verdict.Refused r) f h =
         let s : r ≡ q = cc in
-        rw (f, s) (refused-same (refusedSummary q) _ _ [] [] _ [] (told 1 6 (readVerdict bytes) (omega arith) (read-between bytes) q (f ∙ ap Verdict.Refused s)))
+        rw (f, s) (refused-same (refusedSummary q) _ _ [] [] _ []
+        (told 1 6 (readVerdict bytes) (omega arith) (read-between bytes) q (f ∙ ap Verdict.Refused s)))
 
 -- with room for all the verdict is the page's
-room-enough : (bytes : List ℕ) (l : Lent) → roomVerdict (hourOf bytes) l ≡ Verdict.Fine → verdictOf bytes l ≡ verdictFor bytes
+room-enough : (bytes : List ℕ) (l : Lent)
+    → roomVerdict (hourOf bytes) l ≡ Verdict.Fine
+    → verdictOf bytes l ≡ verdictFor bytes
 unfolding verdictOf verdictFor hourVerdict
 room-enough bytes l e = rw e
 
--- lists for 64 agents, 64 plants and 256 contracts have room for every accepted sheet
+-- lists for every row that a sheet may have have room for every accepted sheet
 pub room-for : (bytes : List ℕ) (c : Counts) → countsOf bytes ≡ c → Few c → (l : Lent)
-    → 384 ≤ length (l .figures) → 64 ≤ length (l .money) → 64 ≤ length (l .schedule) → 256 ≤ length (l .amounts)
+    → 6 * mostAgents ≤ length (l .figures) → mostAgents ≤ length (l .money) → mostPlants ≤ length (l .schedule)
+    → mostContracts ≤ length (l .amounts)
     → roomVerdict (hourOf bytes) l ≡ Verdict.Fine
 unfolding hourOf
 room-for bytes c e w l f m s a =
@@ -105,9 +129,11 @@ room-for bytes c e w l f m s a =
     }))
 
 -- an accepted sheet that was settled into lists with room
-module _ (bytes : List ℕ) (c : Counts) (counts : countsOf bytes ≡ c) (r : Summary) (before : Lent) (kinds₀ kinds figures schedule amounts : List ℕ) (owed : List ℤ)
+module _ (bytes : List ℕ) (c : Counts) (counts : countsOf bytes ≡ c) (r : Summary) (before : Lent)
+    (kinds₀ kinds figures schedule amounts : List ℕ) (owed : List ℤ)
     (room : roomVerdict (hourOf bytes) before ≡ Verdict.Fine)
-    (cells₀ : 6 * c .agents ≤ length (before .figures)) (owed₀ : c .agents ≤ length (before .money)) (few : c .agents ≤ length kinds₀)
+    (cells₀ : 6 * c .agents ≤ length (before .figures)) (owed₀ : c .agents ≤ length (before .money))
+    (few : c .agents ≤ length kinds₀)
     (done : Settled bytes before (lent figures owed schedule amounts) r)
     (filled : Filled 0 kinds₀ kinds (c .agents) (λ a. agentAt bytes c a .kind)) where
   count : agents (hourOf bytes) ≡ c .agents
@@ -121,61 +147,51 @@ module _ (bytes : List ℕ) (c : Counts) (counts : countsOf bytes ≡ c) (r : Su
   module _ (fine : verdictOf bytes before ≡ Verdict.Fine) where
     figures-is : listTo (figure (hourOf bytes)) (6 * agents (hourOf bytes)) ≡ take (6 * c .agents) figures
     figures-is =
-        let f : Filled 0 (before .figures) figures (6 * c .agents) (figure (hourOf bytes)) = rw (fine, count) at (done .figures) in
+        let f : Filled 0 (before .figures) figures (6 * c .agents) (figure (hourOf bytes)) = rw (fine, count) at
+        (done .figures) in
         rw count (sym (filled-front 0 (before .figures) figures (6 * c .agents) (figure (hourOf bytes)) cells₀ f))
 
     owed-is : listTo (money (hourOf bytes)) (agents (hourOf bytes)) ≡ take (c .agents) owed
     owed-is =
-        let f : Filled (pos 0) (before .money) owed (c .agents) (money (hourOf bytes)) = rw (fine, count) at (done .money) in
+        let f : Filled (pos 0) (before .money) owed (c .agents) (money (hourOf bytes)) = rw (fine, count) at
+        (done .money) in
         rw count (sym (filled-front (pos 0) (before .money) owed (c .agents) (money (hourOf bytes)) owed₀ f))
 
-  pub settled-page : pageText bytes ≡ pageOf r (take (c .agents) kinds) (take (6 * c .agents) figures) (take (c .agents) owed)
+  pub settled-page : pageText bytes
+      ≡ pageOf r (take (c .agents) kinds) (take (6 * c .agents) figures) (take (c .agents) owed)
   unfolding pageText Told
   settled-page = go (verdictFor bytes) refl
     where
       same : verdictOf bytes before ≡ verdictFor bytes
       same = room-enough bytes before room
 
-      go : (v : Verdict) → verdictFor bytes ≡ v → pageText bytes ≡ pageOf r (take (c .agents) kinds) (take (6 * c .agents) figures) (take (c .agents) owed)
+      go : (v : Verdict)
+          → verdictFor bytes ≡ v
+          → pageText bytes ≡ pageOf r (take (c .agents) kinds) (take (6 * c .agents) figures) (take (c .agents) owed)
       go (Verdict.Refused q) e =
-          let s : r ≡ summaryOf (Verdict.Refused q) (hourOf bytes) = done .answered ∙ ap (λ (v : Verdict). summaryOf v (hourOf bytes)) (same ∙ e) in
+          let s : r ≡ summaryOf (Verdict.Refused q) (hourOf bytes) = done .answered
+          ∙ ap (λ (v : Verdict). summaryOf v (hourOf bytes)) (same ∙ e) in
           rw (e, s) (refused-same (summaryOf (Verdict.Refused q) (hourOf bytes)) _ _ _ _ _ _ (told-all bytes q e))
       go Verdict.Fine e =
-          let s : r ≡ summaryOf Verdict.Fine (hourOf bytes) = done .answered ∙ ap (λ (v : Verdict). summaryOf v (hourOf bytes)) (same ∙ e) in
-          rw (e, s) (same-lists (summaryOf Verdict.Fine (hourOf bytes)) _ _ _ _ _ _ kinds-is (figures-is (same ∙ e)) (owed-is (same ∙ e)))
+          let s : r ≡ summaryOf Verdict.Fine (hourOf bytes) = done .answered
+          ∙ ap (λ (v : Verdict). summaryOf v (hourOf bytes)) (same ∙ e) in
+          rw (e, s) (same-lists (summaryOf Verdict.Fine (hourOf bytes)) _ _ _ _ _ _ kinds-is (figures-is (same ∙ e))
+          (owed-is (same ∙ e)))
 
 -- what was printed lies within the buffer
-pub done-fits : (text before : List ℕ) (n : ℕ) → Printed.Done n ≡ printed (refusedUnless (leb (length text) (length before)) noRoom 0) (length text)
+pub done-fits : (text before : List ℕ) (n : ℕ)
+    → Printed.Done n ≡ printed (refusedUnless (leb (length text) (length before)) noRoom 0) (length text)
     → (n ≡ length text) × (n ≤ length before)
 done-fits text before n e = go (leb (length text) (length before)) refl e
   where
-    go : (b : Bool) → leb (length text) (length before) ≡ b → Printed.Done n ≡ printed (refusedUnless b noRoom 0) (length text) → (n ≡ length text) × (n ≤ length before)
+    go : (b : Bool)
+        → leb (length text) (length before) ≡ b
+        → Printed.Done n ≡ printed (refusedUnless b noRoom 0) (length text)
+        → (n ≡ length text) × (n ≤ length before)
     go true f q = let s : n ≡ length text = cc in (s, omega (arith, leb-true (length text) (length before) f))
     go false f q = let no : _≡_ {A = ℕ} 0 1 = cc in absurd (omega arith)
 
-fine-read : (bytes : List ℕ) → readVerdict bytes ≡ Verdict.Fine → readOf bytes ≡ Reading.Accepted (countsOf bytes)
-unfolding readOf
-fine-read bytes e = rw e
-
-read-first : (bytes : List ℕ) → verdictFor bytes ≡ Verdict.Fine → readVerdict bytes ≡ Verdict.Fine
-unfolding verdictFor
-read-first bytes e = fine-left (readVerdict bytes) _ e
-
-agents-of : (bytes : List ℕ) → agents (hourOf bytes) ≡ countsOf bytes .agents
-unfolding hourOf
-agents-of bytes = agents-long bytes (countsOf bytes)
-
--- no page is longer than 10,900 bytes
-pub page-small : (bytes : List ℕ) → length (pageText bytes) ≤ 10900
-unfolding pageText Told
-page-small bytes = go (verdictFor bytes) refl
-  where
-    go : (v : Verdict) → verdictFor bytes ≡ v → length (pageText bytes) ≤ 10900
-    go (Verdict.Refused q) e =
-        let r = summaryOf (Verdict.Refused q) (hourOf bytes) in
-        let s : pageText bytes ≡ pageOf r [] [] [] = rw e (refused-same r _ _ [] [] _ [] (told-all bytes q e)) in
-        rw s (omega (arith, page-short r [] [] []))
-    go Verdict.Fine e =
-        let w = accepted-few bytes (countsOf bytes) (fine-read bytes (read-first bytes e)) in
-        let n = agents-of bytes in
-        omega (arith, page-short (summaryOf (verdictFor bytes) (hourOf bytes)) (hourOf bytes .kinds) (listTo (figure (hourOf bytes)) (6 * agents (hourOf bytes))) (listTo (money (hourOf bytes)) (agents (hourOf bytes))), w .agents, n)
+-- any two outcomes that meet the promise of `page` are equal
+pub one-outcome : (bytes before after after′ : List ℕ) (r r′ : Printed) → PrintsAll (pageText bytes) before r after
+    → PrintsAll (pageText bytes) before r′ after′ → (r ≡ r′) × (after ≡ after′)
+one-outcome bytes before after after′ r r′ p q = printed-once p q

@@ -5,7 +5,7 @@ ghost use Prim.Native.Nat.{_*_, _≤_};
 ghost use lib.ListN.{length};
 ghost use Rattle.sums.specs.Lists.{Filled};
 ghost use Rattle.sheet.specs.Reading.{readOf};
-ghost use Rattle.rows.specs.Bytes.{wordsAt};
+ghost use Rattle.sheet.specs.Asking.{agentAt};
 ghost use Rattle.sheet.specs.declared.Reading.{Reading as Reading·answer};
 ghost use Rattle.printing.specs.Page.{pageOf};
 ghost use Rattle.page.specs.Page.{pageText, PrintsAll};
@@ -13,17 +13,23 @@ ghost use Rattle.page.specs.Refused.{refusedSummary};
 use hour::Summary;
 use printing::Printed;
 use refusals::Refusal;
+use rows::Agent;
+use rows::Contract;
+use rows::Plant;
 use sheet::Counts;
 use sheet::Reading;
+use sheet::asking::section_of;
 
-// The kinds of the first n agents.
-fn fill_kinds(sheet: &[u8], n: usize, out: &mut [u32])
-    requires { ⌜ n ≤ length (now out) ⌝ }
-    ensures { λ _. ⌜ Filled 0 (now (out .entry)) (now (out .exit)) n (λ a. wordsAt (now (sheet .entry)) a .first) ⌝ }
+// The kinds of the agents of an accepted sheet.
+fn fill_kinds(sheet: &[u8], c: Counts, out: &mut [u32])
+    requires { ⌜ readOf (now sheet) ≡ Reading·answer.Accepted c ⌝ }
+    requires { ⌜ c .agents ≤ length (now out) ⌝ }
+    ensures { λ _. ⌜ Filled 0 (now (out .entry)) (now (out .exit)) (c .agents) (λ a. agentAt (now (sheet .entry)) c a .kind) ⌝ }
 {
-    for a in 0..n {
-        let w = rows::row_at(sheet, a);
-        out[a] = w.first;
+    let agents = section_of(sheet, c, Agent::SECTION);
+    for a in 0..c.agents {
+        let agent = rows::agent_of(rows::row_at(agents, a));
+        out[a] = agent.kind;
     }
 }
 
@@ -32,15 +38,15 @@ fn accepted_page(sheet: &[u8], c: Counts, out: &mut [u8]) -> Printed
     requires { ⌜ readOf (now sheet) ≡ Reading·answer.Accepted c ⌝ }
     ensures { λ r. ⌜ PrintsAll (pageText (now (sheet .entry))) (now (out .entry)) r (now (out .exit)) ⌝ }
 {
-    let mut figures = [0u32; 384];
-    let mut money = [0i64; 64];
-    let mut schedule = [0u32; 64];
-    let mut amounts = [0u32; 256];
-    let mut kinds = [0u32; 64];
+    let mut figures = [0u32; Agent::CELLS * Agent::MOST];
+    let mut money = [0i64; Agent::MOST];
+    let mut schedule = [0u32; Plant::MOST];
+    let mut amounts = [0u32; Contract::MOST];
+    let mut kinds = [0u32; Agent::MOST];
     let r = settle::settle(sheet, &mut figures, &mut money, &mut schedule, &mut amounts);
+    fill_kinds(sheet, c, &mut kinds);
     let n = c.agents;
-    fill_kinds(sheet, n, &mut kinds);
-    let cells = 6 * n;
+    let cells = Agent::CELLS * n;
     printing::print(r, &kinds[..n], &figures[..cells], &money[..n], out)
 }
 

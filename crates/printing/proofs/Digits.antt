@@ -19,7 +19,7 @@ width zero n = 1
 width (suc k) n = cond (ltb n 10) 1 (suc (width k (n / 10)))
 
 -- a number below the next power has a tenth below this one
-tenth : (k n : ℕ) → n < 10 ^ (suc k + 1) → n / 10 < 10 ^ (k + 1)
+pub tenth : (k n : ℕ) → n < 10 ^ (suc k + 1) → n / 10 < 10 ^ (k + 1)
 tenth k n h =
     let e : suc k - 1 + 1 ≡ k + 1 = omega arith in
     rw e at (fewer (suc k) n (omega arith) h)
@@ -29,7 +29,9 @@ unfolding spell width
 spell-digits zero n rest h = let e : n % 10 < 10 = omega arith in rw (lt-ltb (n % 10) 10 e)
 spell-digits (suc k) n rest h = go (decLt n 10) (λ l. spell-digits k (n / 10) ((48 + n % 10) ∷ rest) (tenth k n h))
   where
-    go : Dec (n < 10) → (10 ≤ n → spell k (n / 10) ((48 + n % 10) ∷ rest) ≡ digits 10 (width k (n / 10)) (n / 10) ++ ((48 + n % 10) ∷ rest))
+    go : Dec (n < 10)
+        → (10 ≤ n → spell k (n / 10) ((48 + n % 10) ∷ rest) ≡ digits 10 (width k (n / 10)) (n / 10)
+        ++ ((48 + n % 10) ∷ rest))
         → spell (suc k) n rest ≡ digits 10 (width (suc k) n) n ++ rest
     go (yes l) r = let g : n % 10 < 10 = omega arith in rw (lt-ltb n 10 l, lt-ltb (n % 10) 10 g)
     go (no l) r =
@@ -71,7 +73,9 @@ widths (suc k) n h = go (decLt n 10) (λ l. widths k (n / 10) (tenth k n h))
             rw (b, pow-suc 10 (suc w)) (omega arith)
 
 -- every number of 64 bits
-pub decimal-is : (n : ℕ) (rest : List ℕ) → n < 2 ^ 64 → Fewest 10 1 n (width 19 n) × (decimal n rest ≡ digits 10 (width 19 n) n ++ rest)
+pub decimal-is : (n : ℕ) (rest : List ℕ)
+    → n < 2 ^ 64
+    → Fewest 10 1 n (width 19 n) × (decimal n rest ≡ digits 10 (width 19 n) n ++ rest)
 decimal-is n rest h =
     let b : n < 10 ^ (19 + 1) = omega arith in
     let w = widths 19 n b in

@@ -33,19 +33,26 @@ listed k f m e =
     record { few = leb-true _ _ (all .0); cells = leb-true _ _ (all .1 .0); owed = leb-true _ _ (all .1 .1 .0) }
 
 module _ (kinds figures : List ℕ) (money : List ℤ) (text before : List ℕ) where
-  pub bad-lists : (leb (length kinds) mostAgents && leb (6 * length kinds) (length figures) && leb (length kinds) (length money)) ≡ false
-      → Prints (printVerdict kinds figures money (length text) (length before)) text before (Printed.Refused (refusal badLayout 0)) before
+  pub bad-lists : (leb (length kinds) mostAgents && leb (6 * length kinds) (length figures)
+      && leb (length kinds) (length money)) ≡ false
+      → Prints (printVerdict kinds figures money (length text) (length before)) text before
+      (Printed.Refused (refusal badLayout 0)) before
   unfolding printVerdict
   bad-lists e = rw e (record { answer = refl; bytes = filled-none 0 before (at text) })
 
-  module _ (good : (leb (length kinds) mostAgents && leb (6 * length kinds) (length figures) && leb (length kinds) (length money)) ≡ true) where
+  module _ (good : (leb (length kinds) mostAgents && leb (6 * length kinds) (length figures)
+      && leb (length kinds) (length money)) ≡ true) where
     pub no-room : length before < length text
-        → Prints (printVerdict kinds figures money (length text) (length before)) text before (Printed.Refused (refusal noRoom 0)) before
+        → Prints (printVerdict kinds figures money (length text) (length before)) text before
+        (Printed.Refused (refusal noRoom 0)) before
     unfolding printVerdict
-    no-room l = rw (good, lt-leb (length text) (length before) l) (record { answer = refl; bytes = filled-none 0 before (at text) })
+    no-room l =
+        rw (good, lt-leb (length text) (length before) l)
+        (record { answer = refl; bytes = filled-none 0 before (at text) })
 
     pub all-printed : (after : List ℕ) → length text ≤ length before → Filled 0 before after (length text) (at text)
-        → Prints (printVerdict kinds figures money (length text) (length before)) text before (Printed.Done (length text)) after
+        → Prints (printVerdict kinds figures money (length text) (length before)) text before
+        (Printed.Done (length text)) after
     unfolding printVerdict
     all-printed after l f = rw (good, le-leb (length text) (length before) l) (record { answer = refl; bytes = f })
 

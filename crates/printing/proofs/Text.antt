@@ -21,7 +21,10 @@ lead s i v p h =
     drop-cons (set s j v) j 0 k
     ∙ (rw (getD-set-same s j v 0 l, drop-set-lt (suc j) s j v (omega arith), e))
 
-pub spell-more : (k n : ℕ) (rest : List ℕ) → 10 ≤ n → 0 < k → spell k n rest ≡ spell (k - 1) (n / 10) ((48 + n % 10) ∷ rest)
+pub spell-more : (k n : ℕ) (rest : List ℕ)
+    → 10 ≤ n
+    → 0 < k
+    → spell k n rest ≡ spell (k - 1) (n / 10) ((48 + n % 10) ∷ rest)
 unfolding spell
 spell-more zero n rest h p = absurd (omega arith)
 spell-more (suc k) n rest h p = let e : suc k - 1 ≡ k = omega arith in rw (le-ltb n 10 h, e)
@@ -49,11 +52,16 @@ drop-more v k p h =
     drop-cons v (k - 1) 0 (omega arith) ∙ ap (λ (j : ℕ). at v (k - 1) ∷ drop j v) e
 
 -- the last number of what is left goes in front of what stands
-pub spaced-more : (v : List ℕ) (k : ℕ) (rest : List ℕ) → 0 < k → k ≤ length v → spaced (drop (k - 1) v) rest ≡ decimal (at v (k - 1)) (32 ∷ spaced (drop k v) rest)
+pub spaced-more : (v : List ℕ) (k : ℕ) (rest : List ℕ)
+    → 0 < k
+    → k ≤ length v
+    → spaced (drop (k - 1) v) rest ≡ decimal (at v (k - 1)) (32 ∷ spaced (drop k v) rest)
 unfolding spaced
 spaced-more v k rest p h = ap (λ (l : List ℕ). spaced l rest) (drop-more v k p h)
 
-pub lines-more : (g : ℕ → List ℕ → List ℕ) (k : ℕ) (rest : List ℕ) → 0 < k → linesTo g k rest ≡ linesTo g (k - 1) (g (k - 1) rest)
+pub lines-more : (g : ℕ → List ℕ → List ℕ) (k : ℕ) (rest : List ℕ)
+    → 0 < k
+    → linesTo g k rest ≡ linesTo g (k - 1) (g (k - 1) rest)
 unfolding linesTo
 lines-more g zero rest h = absurd (omega arith)
 lines-more g (suc k) rest h = let e : suc k - 1 ≡ k = omega arith in rw e

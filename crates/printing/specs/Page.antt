@@ -47,7 +47,7 @@ refusedText r = refusedWord ++ spaced (r .number ∷ []) (decimal (r .place) (10
 unfoldable pub pageOf : Summary → (kinds figures : List ℕ) (money : List ℤ) → List ℕ
 pageOf r kinds figures money = cond (eqb (r .number) 0) (hourText r kinds figures money) (refusedText r)
 
--- ---- printing into a lent buffer: refusal 2 for lists that are not those of at most 64 agents, 11 where the buffer is too short
+-- ---- printing into a lent buffer: refusal 2 for lists that are not those of the agents of a sheet, 11 where the buffer is too short
 unfoldable pub printVerdict : (kinds figures : List ℕ) (money : List ℤ) → (size room : ℕ) → Verdict
 printVerdict kinds figures money size room =
     firstOf (refusedUnless

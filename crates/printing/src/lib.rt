@@ -139,13 +139,13 @@ fn put_line(
     money: &[i64],
     a: usize,
 ) -> usize
-    requires { ⌜ (169 ≤ at) × (at ≤ length (now s)) × (a < length (now kinds)) × (length (now kinds) ≤ 64) × (6 * length (now kinds) ≤ length (now figures)) × (length (now kinds) ≤ length (now money)) ⌝ }
+    requires { ⌜ (169 ≤ at) × (at ≤ length (now s)) × (a < length (now kinds)) × (length (now kinds) ≤ mostAgents) × (6 * length (now kinds) ≤ length (now figures)) × (length (now kinds) ≤ length (now money)) ⌝ }
     ensures { λ r. ⌜ Put (lineOf (now (kinds .entry)) (now (figures .entry)) (now (money .entry)) a (drop at (now (s .entry)))) (now (s .exit)) at 169 r ⌝ }
 {
     let i = put_byte(s, at, b'\n');
     let owed = money[a];
     let j = put_signed(s, i, owed);
-    let k = 6 * a;
+    let k = Agent::CELLS * a;
     let numbers = [
         a as u32,
         kinds[a],
@@ -160,7 +160,7 @@ fn put_line(
 
 // The agents' lines at the end of `s`.
 fn put_lines(s: &mut [u8], kinds: &[u32], figures: &[u32], money: &[i64]) -> usize
-    requires { ⌜ (169 * length (now kinds) ≤ length (now s)) × (length (now kinds) ≤ 64) × (6 * length (now kinds) ≤ length (now figures)) × (length (now kinds) ≤ length (now money)) ⌝ }
+    requires { ⌜ (169 * length (now kinds) ≤ length (now s)) × (length (now kinds) ≤ mostAgents) × (6 * length (now kinds) ≤ length (now figures)) × (length (now kinds) ≤ length (now money)) ⌝ }
     ensures { λ r. ⌜ Put (linesTo (lineOf (now (kinds .entry)) (now (figures .entry)) (now (money .entry))) (length (now (kinds .entry))) []) (now (s .exit)) (length (now (s .entry))) (169 * length (now (kinds .entry))) r ⌝ }
 {
     let mut i = s.len();
@@ -174,7 +174,7 @@ fn put_lines(s: &mut [u8], kinds: &[u32], figures: &[u32], money: &[i64]) -> usi
 
 // The page of a settled hour at the end of `s`.
 fn put_hour(s: &mut [u8], r: Summary, kinds: &[u32], figures: &[u32], money: &[i64]) -> usize
-    requires { ⌜ (169 * length (now kinds) + 68 ≤ length (now s)) × (length (now kinds) ≤ 64) × (6 * length (now kinds) ≤ length (now figures)) × (length (now kinds) ≤ length (now money)) ⌝ }
+    requires { ⌜ (169 * length (now kinds) + 68 ≤ length (now s)) × (length (now kinds) ≤ mostAgents) × (6 * length (now kinds) ≤ length (now figures)) × (length (now kinds) ≤ length (now money)) ⌝ }
     ensures { λ o. ⌜ (drop o (now (s .exit)) ≡ hourText r (now (kinds .entry)) (now (figures .entry)) (now (money .entry))) × (o ≤ length (now (s .entry))) ⌝ }
 {
     let i = put_lines(s, kinds, figures, money);
@@ -199,7 +199,7 @@ fn put_refused(s: &mut [u8], r: Summary) -> usize
 
 // The page at the end of `s`.
 fn put_page(s: &mut [u8], r: Summary, kinds: &[u32], figures: &[u32], money: &[i64]) -> usize
-    requires { ⌜ (169 * length (now kinds) + 68 ≤ length (now s)) × (length (now kinds) ≤ 64) × (6 * length (now kinds) ≤ length (now figures)) × (length (now kinds) ≤ length (now money)) ⌝ }
+    requires { ⌜ (169 * length (now kinds) + 68 ≤ length (now s)) × (length (now kinds) ≤ mostAgents) × (6 * length (now kinds) ≤ length (now figures)) × (length (now kinds) ≤ length (now money)) ⌝ }
     ensures { λ o. ⌜ (drop o (now (s .exit)) ≡ pageOf r (now (kinds .entry)) (now (figures .entry)) (now (money .entry))) × (o ≤ length (now (s .entry))) ⌝ }
 {
     if r.number == 0 {
@@ -219,12 +219,12 @@ fn copy_out(s: &[u8], from: usize, out: &mut [u8])
     }
 }
 
-// The lists are those of at most 64 agents.
+// The lists are those of no more agents than a sheet may have.
 fn lists_good(kinds: usize, figures: usize, money: usize) -> bool
     ensures { λ r. ⌜ r ≡ (leb kinds mostAgents && leb (6 * kinds) figures && leb kinds money) ⌝ }
 {
     if kinds <= Agent::MOST {
-        return (6 * kinds <= figures) & (kinds <= money);
+        return (Agent::CELLS * kinds <= figures) & (kinds <= money);
     }
     false
 }
@@ -239,7 +239,8 @@ pub fn print(r: Summary, kinds: &[u32], figures: &[u32], money: &[i64], out: &mu
             place: 0,
         });
     }
-    let mut s = [0u8; 10900];
+    // Each number put as if it had 64 bits, 169 bytes a line and 68 at the head: more than any page has.
+    let mut s = [0u8; 169 * Agent::MOST + 68];
     let from = put_page(&mut s, r, kinds, figures, money);
     if out.len() < s.len() - from {
         return Printed::Refused(Refusal {

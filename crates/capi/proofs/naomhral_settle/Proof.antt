@@ -24,9 +24,15 @@ returns c =
 
 returns-2 : tie.Need-returns-2
 returns-2 c =
-    let room = (c .before .before .before .before .before .before .before .before .before .before .before .before .before .before .before .before .before) .if1 .left in
-    let s = (c .before .before .before .before .before .before .before .before .before .before .before .before) .settle .ensures in
-    record { told = told-all _ room (ap summaryAnswer (sym (s .answered))) ((c .before .before) .tell .ensures); hour = rw (le-leb _ _ room, ← (s .answered)) s }
+    let at-slice-known6 = c .before .before .before .before .before .before .before in
+    let at-settle = at-slice-known6 .before .before .before .before .before in
+    let at-else1 = at-settle .before .before .before .before .before in
+    let room = at-else1 .if1 .left in
+    let s = at-settle .settle .ensures in
+    record {
+      told = told-all _ room (ap summaryAnswer (sym (s .answered))) ((c .before .before) .tell .ensures);
+      hour = rw (le-leb _ _ room, ← (s .answered)) s;
+    }
 
 pub naomhral-settle-spec : {M : Type 1} → statement M
 naomhral-settle-spec =

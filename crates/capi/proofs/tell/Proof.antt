@@ -30,5 +30,6 @@ slice-write-out c = let l = (c .before .before) .loop .inv .1 .long in omega ari
 pub tell-spec : {M : Type 1} → statement M
 tell-spec =
     tie.close
-    (tie.spec Inv-loop μ-loop (λ c. (omega arith, filled-none 0 _ _)) (λ c. omega arith) (λ c. omega arith) (λ c. omega arith)
+    (tie.spec Inv-loop μ-loop (λ c. (omega arith, filled-none 0 _ _)) (λ c. omega arith) (λ c. omega arith)
+    (λ c. omega arith)
     slice-write-out (λ c. omega arith) (λ c. omega arith) loop-again (λ c. c .before .loop .inv .1 .long) returns)

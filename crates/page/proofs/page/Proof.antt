@@ -5,16 +5,25 @@ use Rattle.page.proofs.Paged.{refused-read}
 use Rattle.page.proofs.page.Statement.{statement}
 use Rattle.page.proofs.page.Tie as tie
 
+-- ways back: X-to-Y leads from the place X of the code to the earlier place Y
+abbrev accepted-page-arg-to-read : tie.After-accepted-page-arg → tie.After-read
+accepted-page-arg-to-read c = c .before .before .before .before
+
 accepted-page-requires : tie.Need-accepted-page-requires
-accepted-page-requires c κs = sym ((c .before .before .before .before) .read .ensures) ∙ (c .before .before) .c .given .1
+accepted-page-requires c κs = sym (accepted-page-arg-to-read c .read .ensures) ∙ (c .before .before) .c .given .1
 
 returns-2 : tie.Need-returns-2
 returns-2 c =
-    rw (refused-read (now ((c .before .before .before .before .before .before .before .before .before .before) .args .sheet)) ((c .before .before .before .before .before) .why .given .0 .0) (sym ((c .before .before .before .before .before .before .before) .read .ensures) ∙ (c .before .before .before .before .before) .why .given .1))
+    let at-why = c .before .before .before .before .before in
+    let at-read = at-why .before .before in
+    let at-start = at-read .before .before .before in
+    rw (refused-read (now (at-start .args .sheet)) (at-why .why .given .0 .0)
+    (sym (at-read .read .ensures) ∙ at-why .why .given .1))
     ((c .before .before) .refused-page .ensures)
 
 pub page-spec : {M : Type 1} → statement M
 page-spec =
     tie.close
-    (tie.spec (λ c κs. search needs) (λ c. search needs) accepted-page-requires (λ c. search needs) (λ c κs. search needs)
+    (tie.spec (λ c κs. search needs) (λ c. search needs) accepted-page-requires (λ c. search needs)
+    (λ c κs. search needs)
     (λ c. search needs) (λ c. search needs) (λ c. search needs) returns-2)

@@ -11,7 +11,8 @@ use Rattle.page.proofs.refused_page.Statement.{statement}
 use Rattle.page.proofs.refused_page.Tie as tie
 
 returns : tie.Need-returns
-returns c = rw (print-fine [] [] [] _ _ (omega arith) (omega arith) (omega arith)) at ((c .before .before) .print .ensures)
+returns c =
+    rw (print-fine [] [] [] _ _ (omega arith) (omega arith) (omega arith)) at ((c .before .before) .print .ensures)
 
 pub refused-page-spec : {M : Type 1} → statement M
 refused-page-spec =

@@ -22,12 +22,15 @@ loop-again : tie.Need-loop-again Inv-loop μ-loop
 loop-again c =
     let l = (c .before .before) .loop .inv .1 .long in (
       omega arith,
-      filled-more 0 _ _ _ _ _ (omega arith) (sym (getD-drop ((c .before .before .before) .args .from) (now ((c .before .before .before) .args .s)) ((c .before .before) .loop .i) 0)) ((c .before .before) .loop .inv .1),
+      filled-more 0 _ _ _ _ _ (omega arith)
+          (sym (getD-drop ((c .before .before .before) .args .from) (now ((c .before .before .before) .args .s))
+          ((c .before .before) .loop .i) 0)) ((c .before .before) .loop .inv .1),
     )
 
 returns : tie.Need-returns Inv-loop μ-loop
 returns c =
-    let e : (c .before) .loop .i ≡ length (now ((c .before .before) .args .s)) - (c .before .before) .args .from = omega arith in
+    let e : (c .before) .loop .i ≡ length (now ((c .before .before) .args .s))
+    - (c .before .before) .args .from = omega arith in
     rw e at ((c .before) .loop .inv .1)
 
 pub copy-out-spec : {M : Type 1} → statement M

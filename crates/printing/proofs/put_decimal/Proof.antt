@@ -11,7 +11,8 @@ use Rattle.printing.proofs.put_decimal.Tie as tie
 
 abbrev Inv-loop : tie.InvT-loop
 Inv-loop s₀ at n i₀ rest₀ left₀ s i rest left =
-    (rest < 10 ^ (left + 1)) × (at + left ≡ i + 19) × (left ≤ 19) × (length s ≡ length s₀) × (spell 19 n (drop at s₀) ≡ spell left rest (drop i s))
+    (rest < 10 ^ (left + 1)) × (at + left ≡ i + 19) × (left ≤ 19) × (length s ≡ length s₀)
+    × (spell 19 n (drop at s₀) ≡ spell left rest (drop i s))
 
 abbrev μ-loop : tie.MeasureT-loop
 μ-loop s₀ at n i₀ rest₀ left₀ s i rest left = left
@@ -34,7 +35,8 @@ loop-again c = let b = c .before .loop in
       omega arith,
       omega arith,
       length-set (b .s) (b .i - 1) (48 + b .rest % 10) ∙ b .inv .3,
-      rw (laws.lead (b .s) (b .i) (48 + b .rest % 10) z l) (b .inv .4 ∙ laws.spell-more (b .left) (b .rest) (drop (b .i) (b .s)) (c .loop-test .taken) p),
+      rw (laws.lead (b .s) (b .i) (48 + b .rest % 10) z l)
+          (b .inv .4 ∙ laws.spell-more (b .left) (b .rest) (drop (b .i) (b .s)) (c .loop-test .taken) p),
     )
 
 same-length : tie.Need-same-length Inv-loop μ-loop
@@ -45,7 +47,9 @@ returns c = let b = c .before .loop in
     let z : 0 < b .i = omega arith in
     let l : b .i ≤ length (b .s) = omega arith in
     record {
-      text-is = laws.lead (b .s) (b .i) (48 + b .rest % 10) z l ∙ sym (b .inv .4 ∙ laws.spell-last (b .left) (b .rest) (drop (b .i) (b .s)) (c .loop-test .left));
+      text-is =
+          laws.lead (b .s) (b .i) (48 + b .rest % 10) z l
+          ∙ sym (b .inv .4 ∙ laws.spell-last (b .left) (b .rest) (drop (b .i) (b .s)) (c .loop-test .left));
       low = omega arith;
       high = omega arith;
     }

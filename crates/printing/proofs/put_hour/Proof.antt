@@ -10,12 +10,17 @@ use Rattle.printing.proofs.put_hour.Tie as tie
 returns : tie.Need-returns
 unfolding hourText
 returns c =
-    let l = (c .before .before .before .before .before .before .before .before .before .before .before .before .before .before .before .before .before .before .before .before .before) .put-lines .ensures .text-is in
-    let b = (c .before .before .before .before .before .before .before .before .before .before .before .before .before .before .before .before .before) .put-byte .ensures .text-is in
-    let d = (c .before .before .before .before .before .before .before .before .before .before .before .before) .put-decimal .ensures .text-is in
-    let n = (c .before .before .before .before .before .before .before) .put-spaced .ensures .text-is in
+    let at-put-spaced = c .before .before .before .before .before .before .before in
+    let at-put-decimal = at-put-spaced .before .before .before .before .before in
+    let at-wide = at-put-decimal .before in
+    let at-put-byte = at-wide .before .before .before .before in
+    let at-put-lines = at-put-byte .before .before .before .before in
+    let l = at-put-lines .put-lines .ensures .text-is in
+    let b = at-put-byte .put-byte .ensures .text-is in
+    let d = at-put-decimal .put-decimal .ensures .text-is in
+    let n = at-put-spaced .put-spaced .ensures .text-is in
     let w = (c .before .before) .put-word .ensures .text-is in
-    (w ∙ (rw (n, d, b, l, (c .before .before .before .before .before .before .before .before .before .before .before .before .before) .wide .ensures)), omega arith)
+    (w ∙ (rw (n, d, b, l, at-wide .wide .ensures)), omega arith)
 
 pub put-hour-spec : {M : Type 1} → statement M
 put-hour-spec =

@@ -16,12 +16,19 @@ use Rattle.printing.proofs.put_line.Tie as tie
 returns : tie.Need-returns
 unfolding lineOf
 returns c =
-    let a = (c .before .before .before .before .before .before .before .before .before .before .before .before .before .before .before .before .before .before .before .before .before .before .before) .args in
-    let b = (c .before .before .before .before .before .before .before .before .before .before .before .before .before .before .before .before .before .before) .put-byte .ensures .text-is in
-    let m = (c .before .before .before .before .before .before .before .before .before .before .before .before .before) .put-signed .ensures .text-is in
+    let at-shared-slice-known6 = c .before .before .before .before .before .before .before in
+    let at-put-signed = at-shared-slice-known6 .before .before .before .before .before .before in
+    let at-owed = at-put-signed .before .before in
+    let at-put-byte = at-owed .before .before .before in
+    let at-start = at-put-byte .before .before .before .before .before in
+    let a = at-start .args in
+    let b = at-put-byte .put-byte .ensures .text-is in
+    let m = at-put-signed .put-signed .ensures .text-is in
     let n = (c .before .before) .put-spaced .ensures .text-is in
     record {
-      text-is = n ∙ ap (spaced (lineNumbers (now (a .kinds)) (now (a .figures)) (a .a))) (m ∙ (rw (toZ-ofZ w64 (getD (now (a .money)) (a .a) (pos 0)) (record { sfits = (c .before .before .before .before .before .before .before .before .before .before .before .before .before .before .before) .owed .given }), b)));
+      text-is =
+          n ∙ ap (spaced (lineNumbers (now (a .kinds)) (now (a .figures)) (a .a)))
+          (m ∙ (rw (toZ-ofZ w64 (getD (now (a .money)) (a .a) (pos 0)) (record { sfits = at-owed .owed .given }), b)));
       low = omega arith;
       high = omega arith;
     }

@@ -20,20 +20,30 @@ Inv-loop s₀ kinds figures money i₀ a₀ s i a =
 abbrev μ-loop : tie.MeasureT-loop
 μ-loop s₀ kinds figures money i₀ a₀ s i a = a
 
+-- ways back: X-to-Y leads from the place X of the code to the earlier place Y
+abbrev slice-known2-to-loop : tie.After-slice-known2 Inv-loop μ-loop → tie.At-loop Inv-loop μ-loop
+slice-known2-to-loop c = c .before .before .before .before .before
+
+abbrev slice-known2-to-start : tie.After-slice-known2 Inv-loop μ-loop → tie.Start Inv-loop μ-loop
+slice-known2-to-start c = slice-known2-to-loop c .before .before .before .before
+
 loop-holds : tie.Need-loop-holds Inv-loop μ-loop
 loop-holds c = (omega arith, omega arith, omega arith, refl, rw drop-length)
 
 loop-again : tie.Need-loop-again Inv-loop μ-loop
 loop-again c =
-    let b = (c .before .before .before .before .before) .loop in
+    let b = slice-known2-to-loop c .loop in
     let p = (c .before .before) .put-line in
-    let g = lineOf (now ((c .before .before .before .before .before .before .before .before .before) .args .kinds)) (now ((c .before .before .before .before .before .before .before .before .before) .args .figures)) (now ((c .before .before .before .before .before .before .before .before .before) .args .money)) in
+    let g =
+    lineOf (now (slice-known2-to-start c .args .kinds)) (now (slice-known2-to-start c .args .figures))
+    (now (slice-known2-to-start c .args .money)) in
     let l = p .kept .0 in (
       omega arith,
       omega arith,
       omega arith,
       omega arith,
-      b .inv .4 ∙ lines-more g (b .a) (drop (b .i) (b .s)) (omega arith) ∙ ap (linesTo g (b .a - 1)) (sym (p .ensures .text-is)),
+      b .inv .4 ∙ lines-more g (b .a) (drop (b .i) (b .s)) (omega arith)
+          ∙ ap (linesTo g (b .a - 1)) (sym (p .ensures .text-is)),
     )
 
 returns : tie.Need-returns Inv-loop μ-loop

@@ -13,11 +13,15 @@ use Rattle.printing.proofs.put_refused.Tie as tie
 returns : tie.Need-returns
 unfolding refusedText
 returns c =
-    let b = (c .before .before .before .before .before .before .before .before .before .before .before .before .before .before .before .before .before) .put-byte .ensures .text-is in
-    let d = (c .before .before .before .before .before .before .before .before .before .before .before .before) .put-decimal .ensures .text-is in
-    let n = (c .before .before .before .before .before .before .before) .put-spaced .ensures .text-is in
+    let at-put-spaced = c .before .before .before .before .before .before .before in
+    let at-put-decimal = at-put-spaced .before .before .before .before .before in
+    let at-wide = at-put-decimal .before in
+    let at-put-byte = at-wide .before .before .before .before in
+    let b = at-put-byte .put-byte .ensures .text-is in
+    let d = at-put-decimal .put-decimal .ensures .text-is in
+    let n = at-put-spaced .put-spaced .ensures .text-is in
     let w = (c .before .before) .put-word .ensures .text-is in
-    (w ∙ (rw (n, d, b, (c .before .before .before .before .before .before .before .before .before .before .before .before .before) .wide .ensures, drop-length)), omega arith)
+    (w ∙ (rw (n, d, b, at-wide .wide .ensures, drop-length)), omega arith)
 
 pub put-refused-spec : {M : Type 1} → statement M
 put-refused-spec =

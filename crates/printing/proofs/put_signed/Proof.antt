@@ -11,12 +11,17 @@ use Rattle.printing.proofs.put_signed.Tie as tie
 returns : tie.Need-returns
 unfolding signed
 returns c =
-    let q = toZ-ofZ w64 ((c .before .before .before .before .before .before .before .before .before .before .before .before) .args .x) ((c .before .before .before .before .before .before .before .before .before .before .before .before) .fits .x) in
-    let m = rw q at ((c .before .before .before .before .before .before .before .before .before .before) .magnitude .ensures) in
-    let s = rw q at ((c .before .before .before .before .before) .below .ensures) in
+    let at-then1 = c .before .before .before .before in
+    let at-below = at-then1 .before in
+    let at-put-decimal = at-below .before .before .before in
+    let at-magnitude = at-put-decimal .before .before in
+    let at-start = at-magnitude .before .before in
+    let q = toZ-ofZ w64 (at-start .args .x) (at-start .fits .x) in
+    let m = rw q at (at-magnitude .magnitude .ensures) in
+    let s = rw q at (at-below .below .ensures) in
     record {
       text-is = (c .before .before) .put-byte .ensures .text-is
-          ∙ (rw (← s, (c .before .before .before .before) .if1 .taken, (c .before .before .before .before .before .before .before .before) .put-decimal .ensures .text-is, m));
+          ∙ (rw (← s, at-then1 .if1 .taken, at-put-decimal .put-decimal .ensures .text-is, m));
       low = omega arith;
       high = omega arith;
     }
@@ -24,11 +29,14 @@ returns c =
 returns-2 : tie.Need-returns-2
 unfolding signed
 returns-2 c =
-    let q = toZ-ofZ w64 ((c .before .before .before .before .before .before .before .before) .args .x) ((c .before .before .before .before .before .before .before .before) .fits .x) in
-    let m = rw q at ((c .before .before .before .before .before .before) .magnitude .ensures) in
+    let at-put-decimal = c .before .before .before .before in
+    let at-magnitude = at-put-decimal .before .before in
+    let at-start = at-magnitude .before .before in
+    let q = toZ-ofZ w64 (at-start .args .x) (at-start .fits .x) in
+    let m = rw q at (at-magnitude .magnitude .ensures) in
     let s = rw q at ((c .before) .below .ensures) in
     record {
-      text-is = (c .before .before .before .before) .put-decimal .ensures .text-is ∙ (rw (← s, c .if1 .left, m));
+      text-is = at-put-decimal .put-decimal .ensures .text-is ∙ (rw (← s, c .if1 .left, m));
       low = omega arith;
       high = omega arith;
     }

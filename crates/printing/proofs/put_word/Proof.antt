@@ -12,20 +12,33 @@ use Rattle.printing.proofs.put_word.Tie as tie
 
 abbrev Inv-loop : tie.InvT-loop
 Inv-loop s₀ at word i₀ k₀ s i k =
-    (k ≤ length word) × (at + k ≤ i + length word) × (i ≤ at) × (length s ≡ length s₀) × (drop i s ≡ drop k word ++ drop at s₀)
+    (k ≤ length word) × (at + k ≤ i + length word) × (i ≤ at) × (length s ≡ length s₀)
+    × (drop i s ≡ drop k word ++ drop at s₀)
 
 abbrev μ-loop : tie.MeasureT-loop
 μ-loop s₀ at word i₀ k₀ s i k = k
 
+-- ways back: X-to-Y leads from the place X of the code to the earlier place Y
+abbrev slice-known2-to-loop : tie.After-slice-known2 Inv-loop μ-loop → tie.At-loop Inv-loop μ-loop
+slice-known2-to-loop c = c .before .before .before .before .before .before
+
+abbrev slice-known2-to-start : tie.After-slice-known2 Inv-loop μ-loop → tie.Start Inv-loop μ-loop
+slice-known2-to-start c = slice-known2-to-loop c .before .before .before
+
 loop-holds : tie.Need-loop-holds Inv-loop μ-loop
 loop-holds c =
-    let a = (c .before .before) .args in
-    (omega arith, omega arith, omega arith, refl, sym (ap (λ (t : List ℕ). t ++ drop (a .at) (now (a .s))) (drop-length (now (a .word)))))
+    let a = (c .before .before) .args in (
+      omega arith,
+      omega arith,
+      omega arith,
+      refl,
+      sym (ap (λ (t : List ℕ). t ++ drop (a .at) (now (a .s))) (drop-length (now (a .word)))),
+    )
 
 loop-again : tie.Need-loop-again Inv-loop μ-loop
 loop-again c =
-    let b = (c .before .before .before .before .before .before) .loop in
-    let a = (c .before .before .before .before .before .before .before .before .before) .args in
+    let b = slice-known2-to-loop c .loop in
+    let a = slice-known2-to-start c .args in
     let word = now (a .word) in
     let p = (c .before .before) .put-byte in (
       omega arith,
@@ -34,7 +47,8 @@ loop-again c =
       p .kept .0 ∙ b .inv .3,
       p .ensures .text-is
           ∙ ap (λ (t : List ℕ). getD word (b .k - 1) 0 ∷ t) (b .inv .4)
-          ∙ sym (ap (λ (t : List ℕ). t ++ drop (a .at) (now (a .s))) (drop-more word (b .k) (omega arith) (omega arith))),
+          ∙ sym (ap (λ (t : List ℕ). t ++ drop (a .at) (now (a .s)))
+          (drop-more word (b .k) (omega arith) (omega arith))),
     )
 
 returns : tie.Need-returns Inv-loop μ-loop

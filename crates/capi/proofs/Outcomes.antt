@@ -1,0 +1,72 @@
+-- Of each C function any two outcomes that meet the promise are equal: the number returned and all that was lent. Assumes nothing.
+use Prim.Native.Nat.{ℕ}
+use mathlib.Core.Path.{_≡_, sym, _∙_}
+use mathlib.Core.List.{List}
+use lib.IntN.{pos}
+use Rattle.sums.proofs.Fill.{filled-unique}
+use Rattle.refusals.specs.declared.Verdict.{Verdict}
+use Rattle.hour.specs.Answer.{Lent}
+use Rattle.writing.specs.Numbers.{Numbers}
+use Rattle.settle.specs.Settled.{lent}
+use Rattle.capi.specs.Told.{Told, BytesTold, ShareTold, ReadTold, WriteTold, SettleTold, PageTold}
+
+pub share-unique : (amount : ℕ) (weights before after after′ : List ℕ) (r r′ : ℕ)
+    → ShareTold amount weights before r after
+    → ShareTold amount weights before r′ after′ → (r ≡ r′) × (after ≡ after′)
+share-unique amount weights before after after′ r r′ h k =
+    (h .number ∙ sym (k .number), filled-unique 0 _ _ _ _ _ (h .shares) (k .shares))
+
+told-unique : (n : ℕ) (answer before after after′ : List ℕ) (r r′ : ℕ)
+    → Told n answer before r after
+    → Told n answer before r′ after′
+    → (r ≡ r′) × (after ≡ after′)
+told-unique n answer before after after′ r r′ h k =
+    (h .number ∙ sym (k .number), filled-unique 0 _ _ _ _ _ (h .listed) (k .listed))
+
+pub read-unique : (sheet before after after′ : List ℕ) (r r′ : ℕ)
+    → ReadTold sheet before r after
+    → ReadTold sheet before r′ after′
+    → (r ≡ r′) × (after ≡ after′)
+read-unique sheet before after after′ r r′ = told-unique _ _ before after after′ r r′
+
+bytes-unique : (v : Verdict) (size : ℕ) (byte : ℕ → ℕ) (before list : List ℕ) (r r′ : ℕ)
+    (after after′ list₁ list₂ : List ℕ)
+    → BytesTold v size byte before list r after list₁ → BytesTold v size byte before list r′ after′ list₂
+    → (r ≡ r′) × (after ≡ after′) × (list₁ ≡ list₂)
+bytes-unique v size byte before list r r′ after after′ list₁ list₂ h k =
+    let t = told-unique _ _ list list₁ list₂ r r′ (h .told) (k .told) in
+    (t .0, filled-unique 0 _ _ _ _ _ (h .bytes) (k .bytes), t .1)
+
+pub write-unique : (n : Numbers) (before list : List ℕ) (r r′ : ℕ) (after after′ list₁ list₂ : List ℕ)
+    → WriteTold n before list r after list₁ → WriteTold n before list r′ after′ list₂ → (r ≡ r′) × (after ≡ after′)
+    × (list₁ ≡ list₂)
+write-unique n before list r r′ after after′ list₁ list₂ = bytes-unique _ _ _ before list r r′ after after′ list₁ list₂
+
+pub page-unique : (sheet before list : List ℕ) (r r′ : ℕ) (after after′ list₁ list₂ : List ℕ)
+    → PageTold sheet before list r after list₁ → PageTold sheet before list r′ after′ list₂ → (r ≡ r′)
+    × (after ≡ after′) × (list₁ ≡ list₂)
+page-unique sheet before list r r′ after after′ list₁ list₂ =
+    bytes-unique _ _ _ before list r r′ after after′ list₁ list₂
+
+pub settle-unique : (sheet : List ℕ) (before x y : Lent) (list list₁ list₂ : List ℕ) (r r′ : ℕ)
+    → SettleTold sheet before x list r list₁ → SettleTold sheet before y list r′ list₂ → (r ≡ r′) × (x ≡ y)
+    × (list₁ ≡ list₂)
+settle-unique sheet before x y list list₁ list₂ r r′ h k =
+    let t = told-unique _ _ list list₁ list₂ r r′ (h .told) (k .told) in
+    let o = h .hour in
+    let p = k .hour in (
+      t .0,
+      same x y (filled-unique 0 _ _ _ _ _ (o .figures) (p .figures))
+          (filled-unique (pos 0) _ _ _ _ _ (o .money) (p .money))
+          (filled-unique 0 _ _ _ _ _ (o .schedule) (p .schedule)) (filled-unique 0 _ _ _ _ _ (o .amounts) (p .amounts)),
+      t .1,
+    )
+  where
+    same : (x y : Lent)
+        → x .figures ≡ y .figures
+        → x .money ≡ y .money
+        → x .schedule ≡ y .schedule
+        → x .amounts ≡ y .amounts
+        → lent (x .figures) (x .money) (x .schedule) (x .amounts)
+        ≡ lent (y .figures) (y .money) (y .schedule) (y .amounts)
+    same x y f m s a = rw (f, m, s, a)
