@@ -17,17 +17,28 @@ use Rattle.sums.proofs.Picks.{pick-le, pick-lt, pick-ge, pick-eq, pick-ne, pick
 use Rattle.sums.proofs.Keyed.{keyed-none, keyed-most, keyed-absent, keyed-beside}
 use Rattle.sums.proofs.Fill.{filled-by}
 use Rattle.share.specs.Share.{floorOf, remainderOf, leftOver, goesBefore, rankOf, shareOf}
-use Rattle.share.specs.Order.{Sharing, Held, keyOf, numberOf, larger, Stands, Ordered, Shifted, Inserted, named, Givable, Given}
+use Rattle.share.specs.Order.{Sharing, FloorsHeld, remainderKey, weightNumber, larger, KeyStands, Ordered, KeysShifted, KeyInserted, named, UnitsGivable, UnitsGiven}
 use Rattle.share.proofs.Proportion.{left-le, floor-left}
 use Rattle.share.proofs.Laws.{share-is, share-no-total}
 use Rattle.share.proofs.Ranks.{before-larger, before-smaller, before-lower, before-higher}
 
 -- ---- room is made from the end
 
-pub shift-none : (old : List ℕ) (k x : ℕ) → Shifted old old k x k
-shift-none old k x = record { long = refl; under = λ q l. refl; over = λ q l m. absurd (omega arith); rest = λ q l m. absurd (omega arith) }
+pub shift-none : (old : List ℕ) (k x : ℕ) → KeysShifted old old k x k
+shift-none old k x =
+    record {
+      long = refl;
+      under = λ q l. refl;
+      over = λ q l m. absurd (omega arith);
+      rest = λ q l m. absurd (omega arith);
+    }
 
-pub shift-more : (old new : List ℕ) (k x j : ℕ) → 0 < j → j < length new → at new (j - 1) ≤ x → Shifted old new k x j → Shifted old (set new j (at new (j - 1))) k x (j - 1)
+pub shift-more : (old new : List ℕ) (k x j : ℕ)
+    → 0 < j
+    → j < length new
+    → at new (j - 1) ≤ x
+    → KeysShifted old new k x j
+    → KeysShifted old (set new j (at new (j - 1))) k x (j - 1)
 shift-more old new k x j pos l small s =
     record {
       long = length-set new j (at new (j - 1)) ∙ s .long;
@@ -53,7 +64,12 @@ shift-more old new k x j pos l small s =
         go (yes h) = let f : q ≡ j - 1 = omega arith in rw f (omega (arith, s .under (j - 1) (omega arith)))
         go (no h) = s .rest q (omega arith) n
 
-pub shift-done : (old new : List ℕ) (k x p : ℕ) → p < length new → p ≤ k → (0 < p → x < at new (p - 1)) → Shifted old new k x p → Inserted old (set new p x) k x p
+pub shift-done : (old new : List ℕ) (k x p : ℕ)
+    → p < length new
+    → p ≤ k
+    → (0 < p → x < at new (p - 1))
+    → KeysShifted old new k x p
+    → KeyInserted old (set new p x) k x p
 shift-done old new k x p l h front s =
     record {
       place = h;
@@ -93,17 +109,19 @@ module _ (key : ℕ → ℕ) where
   larger-lt : (k x i : ℕ) → i < k → x < key i → larger key k (key i) < larger key k x
   unfolding larger
   larger-lt k x i l h =
-      sum-lt k i (λ j. pick (ltb (key i) (key j)) 1) (λ j. pick (ltb x (key j)) 1) (λ j _. pick-mono x (key i) j (omega arith)) l
+      sum-lt k i (λ j. pick (ltb (key i) (key j)) 1) (λ j. pick (ltb x (key j)) 1)
+      (λ j _. pick-mono x (key i) j (omega arith)) l
       (omega (arith, pick-lt x (key i) 1 h, pick-ge (key i) (key i) 1 (le-refl (key i))))
 
   -- one key more, put in behind those that are larger
-  module _ (k : ℕ) (old new : List ℕ) (p : ℕ) (number : numberOf (key k) ≡ k) (o : Ordered key k old) (s : Inserted old new k (key k) p) where
+  module _ (k : ℕ) (old new : List ℕ) (p : ℕ) (number : weightNumber (key k) ≡ k) (o : Ordered key k old)
+      (s : KeyInserted old new k (key k) p) where
     -- it is none of the first k
     strict : (q : ℕ) → p ≤ q → q < k → at old q < key k
     strict q m l = go (ℕ-discrete (at old q) (key k))
       where
         go : Dec (at old q ≡ key k) → at old q < key k
-        go (yes e) = absurd (omega (arith, o q l .within, ap (λ (z : ℕ). numberOf z) e))
+        go (yes e) = absurd (omega (arith, o q l .within, ap (λ (z : ℕ). weightNumber z) e))
         go (no e) = omega (arith, s .moved .rest q m l)
 
     place-most : larger key k (key k) ≤ p
@@ -120,14 +138,19 @@ module _ (key : ℕ → ℕ) where
         go (no h) = omega arith
         go (yes h) =
             let l : p - 1 < k = omega (arith, s .place) in
-            let i : Stands key k (at old (p - 1)) (p - 1) = o (p - 1) l in
-            let f : key k < key (numberOf (at old (p - 1))) = omega (arith, i .is, s .front h) in
-            omega (arith, larger-lt k (key k) (numberOf (at old (p - 1))) (i .within) f, ap (λ (z : ℕ). larger key k z) (i .is), i .ranked)
+            let i : KeyStands key k (at old (p - 1)) (p - 1) = o (p - 1) l in
+            let f : key k < key (weightNumber (at old (p - 1))) = omega (arith, i .is, s .front h) in
+            omega (
+              arith,
+              larger-lt k (key k) (weightNumber (at old (p - 1))) (i .within) f,
+              ap (λ (z : ℕ). larger key k z) (i .is),
+              i .ranked,
+            )
 
-    low : (q : ℕ) → q < p → Stands key (k + 1) (at old q) q
+    low : (q : ℕ) → q < p → KeyStands key (k + 1) (at old q) q
     low q h =
         let l : q < k = omega (arith, s .place) in
-        let i : Stands key k (at old q) q = o q l in
+        let i : KeyStands key k (at old q) q = o q l in
         let m : key k ≤ at old q = keeps q h l in
         record {
           within = omega (arith, i .within);
@@ -139,34 +162,49 @@ module _ (key : ℕ → ℕ) where
         keeps q h l = go (decLt (at old q) (key k))
           where
             go : Dec (at old q < key k) → key k ≤ at old q
-            go (yes n) = absurd (omega (arith, larger-mono k (at old q) (key k) (omega arith), o q l .ranked, place-least))
+            go (yes n) = absurd
+                (omega (arith, larger-mono k (at old q) (key k) (omega arith), o q l .ranked, place-least))
             go (no n) = omega arith
 
-    mid : Stands key (k + 1) (key k) p
+    mid : KeyStands key (k + 1) (key k) p
     mid =
         record {
           within = omega arith;
           is = ap key number;
-          ranked = omega (arith, larger-step k (key k), place-least, place-most, pick-ge (key k) (key k) 1 (le-refl (key k)));
+          ranked =
+              omega (
+                arith,
+                larger-step k (key k),
+                place-least,
+                place-most,
+                pick-ge (key k) (key k) 1 (le-refl (key k)),
+              );
         }
 
-    high : (q : ℕ) → p < q → q < k + 1 → Stands key (k + 1) (at old (q - 1)) q
+    high : (q : ℕ) → p < q → q < k + 1 → KeyStands key (k + 1) (at old (q - 1)) q
     high q h l =
-        let i : Stands key k (at old (q - 1)) (q - 1) = o (q - 1) (omega arith) in
+        let i : KeyStands key k (at old (q - 1)) (q - 1) = o (q - 1) (omega arith) in
         record {
           within = omega (arith, i .within);
           is = i .is;
-          ranked = omega (arith, larger-step k (at old (q - 1)), i .ranked, pick-lt (at old (q - 1)) (key k) 1 (strict (q - 1) (omega arith) (omega arith)));
+          ranked =
+              omega (
+                arith,
+                larger-step k (at old (q - 1)),
+                i .ranked,
+                pick-lt (at old (q - 1)) (key k) 1 (strict (q - 1) (omega arith) (omega arith)),
+              );
         }
 
     pub insert-more : Ordered key (k + 1) new
     insert-more q l = go (decLt q p) (decLt p q)
       where
-        go : Dec (q < p) → Dec (p < q) → Stands key (k + 1) (at new q) q
+        go : Dec (q < p) → Dec (p < q) → KeyStands key (k + 1) (at new q) q
         go (yes h) m = rw (s .moved .under q h) (low q h)
         go (no h) (yes m) =
             let z : q ≡ q - 1 + 1 = omega arith in
-            let e : at new q ≡ at old (q - 1) = ap (λ (x : ℕ). at new x) z ∙ s .moved .over (q - 1) (omega arith) (omega arith) in
+            let e : at new q ≡ at old (q - 1) = ap (λ (x : ℕ). at new x) z
+            ∙ s .moved .over (q - 1) (omega arith) (omega arith) in
             rw e (high q m l)
         go (no h) (no m) = let e : q ≡ p = omega arith in rw (e, s .here) mid
 
@@ -175,95 +213,139 @@ ordered-none key l q h = absurd (omega arith)
 
 -- ---- a key carries its number
 
-pub number-of-key : (r i : ℕ) → i < 256 → numberOf (r * 256 + (255 - i)) ≡ i
+pub number-of-key : (r i : ℕ) → i < 256 → weightNumber (r * 256 + (255 - i)) ≡ i
 number-of-key r i h = omega arith
 
 module _ (rem : ℕ → ℕ) where
   -- who goes before has the larger key
-  before-key : (j i : ℕ) → j < 256 → i < 256 → goesBefore rem j i ≡ ltb (keyOf rem i) (keyOf rem j)
+  before-key : (j i : ℕ) → j < 256 → i < 256 → goesBefore rem j i ≡ ltb (remainderKey rem i) (remainderKey rem j)
   before-key j i m l = go (decLt (rem i) (rem j)) (decLt (rem j) (rem i)) (decLt j i)
     where
-      go : Dec (rem i < rem j) → Dec (rem j < rem i) → Dec (j < i) → goesBefore rem j i ≡ ltb (keyOf rem i) (keyOf rem j)
-      go (yes p) q s = before-larger rem j i p ∙ sym (lt-ltb (keyOf rem i) (keyOf rem j) (omega arith))
-      go (no p) (yes q) s = before-smaller rem j i q ∙ sym (le-ltb (keyOf rem i) (keyOf rem j) (omega arith))
-      go (no p) (no q) (yes s) = before-lower rem j i (omega arith) s ∙ sym (lt-ltb (keyOf rem i) (keyOf rem j) (omega arith))
-      go (no p) (no q) (no s) = before-higher rem j i (omega arith) (omega arith) ∙ sym (le-ltb (keyOf rem i) (keyOf rem j) (omega arith))
+      go : Dec (rem i < rem j)
+          → Dec (rem j < rem i)
+          → Dec (j < i)
+          → goesBefore rem j i ≡ ltb (remainderKey rem i) (remainderKey rem j)
+      go (yes p) q s = before-larger rem j i p ∙ sym (lt-ltb (remainderKey rem i) (remainderKey rem j) (omega arith))
+      go (no p) (yes q) s = before-smaller rem j i q
+          ∙ sym (le-ltb (remainderKey rem i) (remainderKey rem j) (omega arith))
+      go (no p) (no q) (yes s) = before-lower rem j i (omega arith) s
+          ∙ sym (lt-ltb (remainderKey rem i) (remainderKey rem j) (omega arith))
+      go (no p) (no q) (no s) = before-higher rem j i (omega arith) (omega arith)
+          ∙ sym (le-ltb (remainderKey rem i) (remainderKey rem j) (omega arith))
 
 -- ---- one kWh for each of the first keys
 
-pub given-none : (l before : List ℕ) → Given l 0 before before
-given-none l before = record { more = λ i. omega (arith, keyed-none (λ q. numberOf (at l q)) (λ q. 1) i); long = refl }
+pub given-none : (l before : List ℕ) → UnitsGiven l 0 before before
+given-none l before =
+    record { more = λ i. omega (arith, keyed-none (λ q. weightNumber (at l q)) (λ q. 1) i); long = refl }
 
-pub given-more : (l before out : List ℕ) (n : ℕ) → numberOf (at l n) < length out → Given l n before out → Given l (n + 1) before (set out (numberOf (at l n)) (at out (numberOf (at l n)) + 1))
+pub given-more : (l before out : List ℕ) (n : ℕ)
+    → weightNumber (at l n) < length out
+    → UnitsGiven l n before out
+    → UnitsGiven l (n + 1) before (set out (weightNumber (at l n)) (at out (weightNumber (at l n)) + 1))
 given-more l before out n h g =
     record {
-      more = λ i. omega (arith, keyed-beside (λ q. numberOf (at l q)) (λ q. 1) n out (numberOf (at l n)) 1 refl refl h i (at before i) (omega (arith, g .more i)));
-      long = length-set out (numberOf (at l n)) (at out (numberOf (at l n)) + 1) ∙ g .long;
+      more =
+          λ i. omega (
+            arith,
+            keyed-beside (λ q. weightNumber (at l q)) (λ q. 1) n out (weightNumber (at l n)) 1 refl refl h i
+                (at before i) (omega (arith, g .more i)),
+          );
+      long = length-set out (weightNumber (at l n)) (at out (weightNumber (at l n)) + 1) ∙ g .long;
     }
 
 -- what a cell holds on the way
 
-pub given-le : (l before out : List ℕ) (n i : ℕ) → Given l n before out → at out i ≤ at before i + n
-given-le l before out n i g = omega (arith, g .more i, keyed-most (λ q. numberOf (at l q)) (λ q. 1) n i 1 (λ j _. le-refl 1))
+pub given-le : (l before out : List ℕ) (n i : ℕ) → UnitsGiven l n before out → at out i ≤ at before i + n
+given-le l before out n i g =
+    omega (arith, g .more i, keyed-most (λ q. weightNumber (at l q)) (λ q. 1) n i 1 (λ j _. le-refl 1))
 
 -- the rank in the rule is the rank among the keys
-pub rank-larger : (a : ℕ) (ws : List ℕ) (i : ℕ) → length ws ≤ 256 → i < length ws → rankOf a ws i ≡ larger (keyOf (remainderOf a ws)) (length ws) (keyOf (remainderOf a ws) i)
+pub rank-larger : (a : ℕ) (ws : List ℕ) (i : ℕ)
+    → length ws ≤ 256
+    → i < length ws
+    → rankOf a ws i ≡ larger (remainderKey (remainderOf a ws)) (length ws) (remainderKey (remainderOf a ws) i)
 unfolding rankOf larger
 rank-larger a ws i few l =
-    sum-eq (length ws) (λ j. pick (goesBefore (remainderOf a ws) j i) 1) (λ j. pick (ltb (keyOf (remainderOf a ws) i) (keyOf (remainderOf a ws) j)) 1)
+    sum-eq (length ws) (λ j. pick (goesBefore (remainderOf a ws) j i) 1)
+    (λ j. pick (ltb (remainderKey (remainderOf a ws) i) (remainderKey (remainderOf a ws) j)) 1)
     (λ j m. ap (λ (b : Bool). pick b 1) (before-key (remainderOf a ws) j i (omega arith) (omega arith)))
 
 -- one of the first n keys has the number i exactly where the rank of i is below n
-module _ (rem : ℕ → ℕ) (k : ℕ) (l : List ℕ) (few : k ≤ 256) (o : Ordered (keyOf rem) k l) (i : ℕ) (li : i < k) where
-  same-place : (q : ℕ) → q < k → pick (eqb (numberOf (at l q)) i) 1 ≡ pick (eqb (larger (keyOf rem) k (keyOf rem i)) q) 1
-  same-place q lq = go (ℕ-discrete (numberOf (at l q)) i)
-    where
-      apart : (numberOf (at l q) ≡ i → ⊥) → larger (keyOf rem) k (keyOf rem i) ≡ q → ⊥
-      apart ne e = split (decLt (keyOf rem i) (at l q)) (decLt (at l q) (keyOf rem i))
-        where
-          split : Dec (keyOf rem i < at l q) → Dec (at l q < keyOf rem i) → ⊥
-          split (yes h) m =
-              let f : keyOf rem i < keyOf rem (numberOf (at l q)) = omega (arith, o q lq .is) in
-              omega (arith, larger-lt (keyOf rem) k (keyOf rem i) (numberOf (at l q)) (o q lq .within) f, ap (λ (z : ℕ). larger (keyOf rem) k z) (o q lq .is), o q lq .ranked)
-          split (no h) (yes m) = omega (arith, larger-lt (keyOf rem) k (at l q) i li m, o q lq .ranked)
-          split (no h) (no m) =
-              let f : at l q ≡ keyOf rem i = omega arith in
-              ne (ap (λ (z : ℕ). numberOf z) f ∙ number-of-key (rem i) i (omega arith))
+module _ (rem : ℕ → ℕ) (k : ℕ) (l : List ℕ) (few : k ≤ 256) (o : Ordered (remainderKey rem) k l) (i : ℕ) (li : i < k)
+  where
+    same-place : (q : ℕ)
+        → q < k
+        → pick (eqb (weightNumber (at l q)) i) 1 ≡ pick (eqb (larger (remainderKey rem) k (remainderKey rem i)) q) 1
+    same-place q lq = go (ℕ-discrete (weightNumber (at l q)) i)
+      where
+        apart : (weightNumber (at l q) ≡ i → ⊥) → larger (remainderKey rem) k (remainderKey rem i) ≡ q → ⊥
+        apart ne e = split (decLt (remainderKey rem i) (at l q)) (decLt (at l q) (remainderKey rem i))
+          where
+            split : Dec (remainderKey rem i < at l q) → Dec (at l q < remainderKey rem i) → ⊥
+            split (yes h) m =
+                let f : remainderKey rem i < remainderKey rem (weightNumber (at l q)) = omega (arith, o q lq .is) in
+                omega (
+                  arith,
+                  larger-lt (remainderKey rem) k (remainderKey rem i) (weightNumber (at l q)) (o q lq .within) f,
+                  ap (λ (z : ℕ). larger (remainderKey rem) k z) (o q lq .is),
+                  o q lq .ranked,
+                )
+            split (no h) (yes m) = omega (arith, larger-lt (remainderKey rem) k (at l q) i li m, o q lq .ranked)
+            split (no h) (no m) =
+                let f : at l q ≡ remainderKey rem i = omega arith in
+                ne (ap (λ (z : ℕ). weightNumber z) f ∙ number-of-key (rem i) i (omega arith))
 
-      go : Dec (numberOf (at l q) ≡ i) → pick (eqb (numberOf (at l q)) i) 1 ≡ pick (eqb (larger (keyOf rem) k (keyOf rem i)) q) 1
-      go (yes e) =
-          let f : larger (keyOf rem) k (keyOf rem i) ≡ q = ap (λ (z : ℕ). larger (keyOf rem) k (keyOf rem z)) (sym e) ∙ ap (λ (z : ℕ). larger (keyOf rem) k z) (o q lq .is) ∙ o q lq .ranked in
-          pick-eq (numberOf (at l q)) i 1 e ∙ sym (pick-eq (larger (keyOf rem) k (keyOf rem i)) q 1 f)
-      go (no e) = pick-ne (numberOf (at l q)) i 1 e ∙ sym (pick-ne (larger (keyOf rem) k (keyOf rem i)) q 1 (apart e))
+        go : Dec (weightNumber (at l q) ≡ i)
+            → pick (eqb (weightNumber (at l q)) i) 1 ≡ pick (eqb (larger (remainderKey rem) k (remainderKey rem i)) q) 1
+        go (yes e) =
+            let f : larger (remainderKey rem) k (remainderKey rem i)
+            ≡ q =
+            ap (λ (z : ℕ). larger (remainderKey rem) k (remainderKey rem z)) (sym e)
+            ∙ ap (λ (z : ℕ). larger (remainderKey rem) k z) (o q lq .is) ∙ o q lq .ranked in
+            pick-eq (weightNumber (at l q)) i 1 e
+            ∙ sym (pick-eq (larger (remainderKey rem) k (remainderKey rem i)) q 1 f)
+        go (no e) = pick-ne (weightNumber (at l q)) i 1 e
+            ∙ sym (pick-ne (larger (remainderKey rem) k (remainderKey rem i)) q 1 (apart e))
 
-  pub named-rank : (n : ℕ) → n ≤ k → named l n i ≡ pick (ltb (larger (keyOf rem) k (keyOf rem i)) n) 1
-  unfolding keyed sum
-  named-rank zero h = sym (pick-ge (larger (keyOf rem) k (keyOf rem i)) 0 1 (omega arith))
-  named-rank (suc n) h =
-      omega (arith, named-rank n (omega arith), same-place n (omega arith), pick-suc (larger (keyOf rem) k (keyOf rem i)) n 1)
+    pub named-rank : (n : ℕ) → n ≤ k → named l n i ≡ pick (ltb (larger (remainderKey rem) k (remainderKey rem i)) n) 1
+    unfolding keyed sum
+    named-rank zero h = sym (pick-ge (larger (remainderKey rem) k (remainderKey rem i)) 0 1 (omega arith))
+    named-rank (suc n) h =
+        omega (
+          arith,
+          named-rank n (omega arith),
+          same-place n (omega arith),
+          pick-suc (larger (remainderKey rem) k (remainderKey rem i)) n 1,
+        )
 
 pub total-pos : (ws : List ℕ) (t : ℕ) → Sharing ws t → 0 < total ws
 total-pos ws t sh = omega (arith, sh .is, sh .above)
 
 -- with the floors in place and the keys in order there is one kWh for each of the first
-module _ (a : ℕ) (ws : List ℕ) (t : ℕ) (out l : List ℕ) (left : ℕ) (h : Held a ws t out) (is : left ≡ leftOver a ws) (o : Ordered (keyOf (remainderOf a ws)) (length ws) l) where
+module _ (a : ℕ) (ws : List ℕ) (t : ℕ) (out l : List ℕ) (left : ℕ) (h : FloorsHeld a ws t out)
+    (is : left ≡ leftOver a ws) (o : Ordered (remainderKey (remainderOf a ws)) (length ws) l) where
   pos : 0 < total ws
   pos = total-pos ws t (h .sharing)
 
   among : left ≤ length ws
   among = omega (arith, left-le a ws pos)
 
-  pub givable : a ≤ 4294967295 → length ws ≤ length l → Givable l left out
+  pub givable : a ≤ 4294967295 → length ws ≤ length l → UnitsGivable l left out
   givable small long =
       record {
         listed = omega (arith, among);
         there = λ q m. omega (arith, o q (omega (arith, among)) .within, h .room);
         fits = λ q m.
-            let i : Stands (keyOf (remainderOf a ws)) (length ws) (at l q) q = o q (omega (arith, among)) in
-            omega (arith, h .floors (numberOf (at l q)) (i .within), floor-left a ws pos (numberOf (at l q)) (i .within));
+            let i : KeyStands (remainderKey (remainderOf a ws)) (length ws) (at l q) q = o q (omega (arith, among)) in
+            omega (
+              arith,
+              h .floors (weightNumber (at l q)) (i .within),
+              floor-left a ws pos (weightNumber (at l q)) (i .within),
+            );
       }
 
-  pub given-shares : (after : List ℕ) → Given l left out after → Filled 0 out after (length ws) (shareOf a ws)
+  pub given-shares : (after : List ℕ) → UnitsGiven l left out after → Filled 0 out after (length ws) (shareOf a ws)
   given-shares after g = record { done = done; kept = kept; long = g .long }
     where
       done : (i : ℕ) → i < length ws → at after i ≡ shareOf a ws i
@@ -284,15 +366,23 @@ module _ (a : ℕ) (ws : List ℕ) (t : ℕ) (out l : List ℕ) (left : ℕ) (h 
           omega (
             arith,
             g .more i,
-            keyed-absent (λ q. numberOf (at l q)) (λ q. 1) left i (λ q n e. omega (arith, o q (omega (arith, among)) .within)),
+            keyed-absent (λ q. weightNumber (at l q)) (λ q. 1) left i
+                (λ q n e. omega (arith, o q (omega (arith, among)) .within)),
           )
 
 -- nothing is left over: the floors are the shares
-pub no-left : (a : ℕ) (ws before after : List ℕ) → 0 < total ws → leftOver a ws ≡ 0 → Filled 0 before after (length ws) (floorOf a ws) → Filled 0 before after (length ws) (shareOf a ws)
+pub no-left : (a : ℕ) (ws before after : List ℕ)
+    → 0 < total ws
+    → leftOver a ws ≡ 0
+    → Filled 0 before after (length ws) (floorOf a ws)
+    → Filled 0 before after (length ws) (shareOf a ws)
 no-left a ws before after pos e r =
     filled-by 0 before after (length ws) (floorOf a ws) (shareOf a ws)
     (λ i _. omega (arith, share-is a ws pos i, pick-ge (rankOf a ws i) (leftOver a ws) 1 (omega arith))) r
 
-pub zero-shares : (a : ℕ) (ws before after : List ℕ) → total ws ≡ 0 → Filled 0 before after (length ws) (λ _. 0) → Filled 0 before after (length ws) (shareOf a ws)
+pub zero-shares : (a : ℕ) (ws before after : List ℕ)
+    → total ws ≡ 0
+    → Filled 0 before after (length ws) (λ _. 0)
+    → Filled 0 before after (length ws) (shareOf a ws)
 zero-shares a ws before after e r =
     filled-by 0 before after (length ws) (λ _. 0) (shareOf a ws) (λ i _. sym (share-no-total a ws i e)) r

@@ -25,57 +25,57 @@ pub record Floored (amount : ℕ) (weights before : List ℕ) (r : ℕ) (after :
   pub result : Filled 0 before after (length weights) (floorOf amount weights)
 
 -- the floors stand in the list
-pub record Held (amount : ℕ) (weights : List ℕ) (t : ℕ) (out : List ℕ) : Type 0 where
+pub record FloorsHeld (amount : ℕ) (weights : List ℕ) (t : ℕ) (out : List ℕ) : Type 0 where
   pub sharing : Sharing weights t
   pub room : length weights ≤ length out
   pub floors : (i : ℕ) → i < length weights → at out i ≡ floorOf amount weights i
 
 -- the remainder with the weight's number behind it, as one number: whoever goes before has the larger one
-abbrev pub keyOf : (remainder : ℕ → ℕ) → ℕ → ℕ
-keyOf rem i = rem i * 256 + (255 - i)
+abbrev pub remainderKey : (remainder : ℕ → ℕ) → ℕ → ℕ
+remainderKey rem i = rem i * 256 + (255 - i)
 
 -- the weight's number, read from its key
-abbrev pub numberOf : ℕ → ℕ
-numberOf x = 255 - x % 256
+abbrev pub weightNumber : ℕ → ℕ
+weightNumber x = 255 - x % 256
 
 -- how many of the first k keys are larger than x
 unfoldable pub larger : (key : ℕ → ℕ) → (k x : ℕ) → ℕ
 larger key k x = sum k (λ j. pick (ltb x (key j)) 1)
 
 -- x is one of the first k keys, and q of them are larger
-pub record Stands (key : ℕ → ℕ) (k x q : ℕ) : Type 0 where
-  pub within : numberOf x < k
-  pub is : key (numberOf x) ≡ x
+pub record KeyStands (key : ℕ → ℕ) (k x q : ℕ) : Type 0 where
+  pub within : weightNumber x < k
+  pub is : key (weightNumber x) ≡ x
   pub ranked : larger key k x ≡ q
 
 -- the list holds the first k keys, each at its rank among them
 abbrev pub Ordered : (key : ℕ → ℕ) → ℕ → List ℕ → Type 0
-Ordered key k l = (q : ℕ) → q < k → Stands key k (at l q) q
+Ordered key k l = (q : ℕ) → q < k → KeyStands key k (at l q) q
 
 -- what stood from j up to k has moved up by one; it is at most x
-pub record Shifted (old new : List ℕ) (k x j : ℕ) : Type 0 where
+pub record KeysShifted (old new : List ℕ) (k x j : ℕ) : Type 0 where
   pub long : length new ≡ length old
   pub under : (q : ℕ) → q < j → at new q ≡ at old q
   pub over : (q : ℕ) → j ≤ q → q < k → at new (q + 1) ≡ at old q
   pub rest : (q : ℕ) → j ≤ q → q < k → at old q ≤ x
 
 -- x stands at p, behind what is larger
-pub record Inserted (old new : List ℕ) (k x p : ℕ) : Type 0 where
+pub record KeyInserted (old new : List ℕ) (k x p : ℕ) : Type 0 where
   pub place : p ≤ k
   pub front : 0 < p → x < at old (p - 1)
   pub here : at new p ≡ x
-  pub moved : Shifted old new k x p
+  pub moved : KeysShifted old new k x p
 
 -- cell i has got one more for each of the first n keys that names it
 abbrev pub named : List ℕ → ℕ → ℕ → ℕ
-named l n i = keyed (λ q. numberOf (at l q)) (λ q. 1) n i
+named l n i = keyed (λ q. weightNumber (at l q)) (λ q. 1) n i
 
-pub record Given (l : List ℕ) (n : ℕ) (before after : List ℕ) : Type 0 where
+pub record UnitsGiven (l : List ℕ) (n : ℕ) (before after : List ℕ) : Type 0 where
   pub more : (i : ℕ) → at after i ≡ at before i + named l n i
   pub long : length after ≡ length before
 
 -- there is room for that
-pub record Givable (l : List ℕ) (n : ℕ) (before : List ℕ) : Type 0 where
+pub record UnitsGivable (l : List ℕ) (n : ℕ) (before : List ℕ) : Type 0 where
   pub listed : n ≤ length l
-  pub there : (q : ℕ) → q < n → numberOf (at l q) < length before
-  pub fits : (q : ℕ) → q < n → at before (numberOf (at l q)) + n ≤ 4294967295
+  pub there : (q : ℕ) → q < n → weightNumber (at l q) < length before
+  pub fits : (q : ℕ) → q < n → at before (weightNumber (at l q)) + n ≤ 4294967295

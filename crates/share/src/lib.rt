@@ -7,7 +7,7 @@ ghost use Prim.Native.Nat.{ℕ, _+_, _-_, _*_, _/_, _%_, _<_, _≤_};
 ghost use lib.ListN.{length};
 ghost use Rattle.sums.specs.Lists.{total, Filled};
 ghost use Rattle.share.specs.Share.{mostWeights, remainderOf, leftOver, shareOf, Shared};
-ghost use Rattle.share.specs.Order.{mostTotal, Sharing, Floored, Held, keyOf, Ordered, Inserted, Givable, Given};
+ghost use Rattle.share.specs.Order.{mostTotal, Sharing, Floored, FloorsHeld, remainderKey, Ordered, KeyInserted, UnitsGivable, UnitsGiven};
 
 // More weights than this are refused: the ordered copy of the remainders has one number for each.
 const MOST_WEIGHTS: usize = 256;
@@ -73,7 +73,7 @@ fn key(amount: u32, weight: u32, t: u64, floor: u32, i: usize) -> u64
 // Puts x among the first k keys, which stand in falling order. Hands back its place, which only proofs read.
 fn insert(keys: &mut [u64], k: usize, x: u64) -> usize
     requires { ⌜ k < length (now keys) ⌝ }
-    ensures { λ p. ⌜ Inserted (now (keys .entry)) (now (keys .exit)) k x p ⌝ }
+    ensures { λ p. ⌜ KeyInserted (now (keys .entry)) (now (keys .exit)) k x p ⌝ }
 {
     let mut j = k;
     while 0 < j {
@@ -91,8 +91,8 @@ fn insert(keys: &mut [u64], k: usize, x: u64) -> usize
 
 // The ordered copy of the remainders: the floors stand in `out`.
 fn order(amount: u32, weights: &[u32], t: u64, out: &[u32], keys: &mut [u64])
-    requires { ⌜ Held amount (now weights) t (now out) × (length (now weights) ≤ length (now keys)) ⌝ }
-    ensures { λ _. ⌜ Ordered (keyOf (remainderOf amount (now (weights .entry)))) (length (now (weights .entry))) (now (keys .exit)) ⌝ }
+    requires { ⌜ FloorsHeld amount (now weights) t (now out) × (length (now weights) ≤ length (now keys)) ⌝ }
+    ensures { λ _. ⌜ Ordered (remainderKey (remainderOf amount (now (weights .entry)))) (length (now (weights .entry))) (now (keys .exit)) ⌝ }
 {
     let mut k = 0;
     while k < weights.len() {
@@ -104,8 +104,8 @@ fn order(amount: u32, weights: &[u32], t: u64, out: &[u32], keys: &mut [u64])
 
 // One more for each of the weights that the first n keys name.
 fn give(keys: &[u64], n: u32, out: &mut [u32])
-    requires { ⌜ Givable (now keys) n (now out) ⌝ }
-    ensures { λ _. ⌜ Given (now (keys .entry)) n (now (out .entry)) (now (out .exit)) ⌝ }
+    requires { ⌜ UnitsGivable (now keys) n (now out) ⌝ }
+    ensures { λ _. ⌜ UnitsGiven (now (keys .entry)) n (now (out .entry)) (now (out .exit)) ⌝ }
 {
     let mut q: u32 = 0;
     while q < n {
@@ -117,7 +117,7 @@ fn give(keys: &[u64], n: u32, out: &mut [u32])
 
 // The kWh left over, where the floors stand in `out` already.
 fn spread(amount: u32, weights: &[u32], t: u64, left: u32, out: &mut [u32])
-    requires { ⌜ Held amount (now weights) t (now out) × (left ≡ leftOver amount (now weights)) ⌝ }
+    requires { ⌜ FloorsHeld amount (now weights) t (now out) × (left ≡ leftOver amount (now weights)) ⌝ }
     ensures { λ _. ⌜ Filled 0 (now (out .entry)) (now (out .exit)) (length (now (weights .entry))) (shareOf amount (now (weights .entry))) ⌝ }
 {
     let mut keys = [0u64; MOST_WEIGHTS];

@@ -7,11 +7,16 @@ use Rattle.share.proofs.key.Statement.{statement}
 use Rattle.share.proofs.key.Tie as tie
 
 -- the floor times the total, and the remainder, make up the product
-divided : (c : tie.After-product) → (((c .before) .args .floor) * ((c .before) .args .t) + ((c .before) .args .amount) * ((c .before) .args .weight) % ((c .before) .args .t) ≡ ((c .before) .args .amount) * ((c .before) .args .weight)) × (((c .before) .args .amount) * ((c .before) .args .weight) % ((c .before) .args .t) < ((c .before) .args .t))
+divided : (c : tie.After-product)
+    → (((c .before) .args .floor) * ((c .before) .args .t) + ((c .before) .args .amount) * ((c .before) .args .weight)
+    % ((c .before) .args .t) ≡ ((c .before) .args .amount) * ((c .before) .args .weight))
+    × (((c .before) .args .amount) * ((c .before) .args .weight) % ((c .before) .args .t) < ((c .before) .args .t))
 divided c =
     let s = c .before in
-    let e : s .args .floor ≡ (s .args .amount) * (s .args .weight) / (s .args .t) = s .pre .2 in
-    (rw e (div-add-mod' ((s .args .amount) * (s .args .weight)) (s .args .t)), mod-lt ((s .args .amount) * (s .args .weight)) (s .pre .0))
+    let e : s .args .floor ≡ (s .args .amount) * (s .args .weight) / (s .args .t) = s .pre .2 in (
+      rw e (div-add-mod' ((s .args .amount) * (s .args .weight)) (s .args .t)),
+      mod-lt ((s .args .amount) * (s .args .weight)) (s .pre .0),
+    )
 
 mul-result : tie.Need-mul-result
 mul-result c = omega (arith, divided c)
