@@ -13,6 +13,7 @@ use crate::agent_fields;
 use crate::boundary_fields;
 use crate::contract_fields;
 use crate::opened::kept_row;
+use crate::opened::kept_stretch;
 use crate::part_of;
 use crate::plant_fields;
 use crate::read;
@@ -112,7 +113,7 @@ pub fn section(s: &[u8], section: u32) -> &[u8]
     ensures { λ r. ⌜ now r ≡ sectionIn (readOf (now (s .entry))) (now (s .entry)) section ⌝ }
 {
     match read(s) {
-        Reading::Accepted(c) => section_of(s, c, section),
+        Reading::Accepted(c) => kept_stretch(s, c, section),
         Reading::Refused(_) => &s[0..0],
     }
 }

@@ -43,3 +43,11 @@ pub fn kept_row(bytes: &[u8], counts: Counts, k: u32, i: u32) -> RowRead
 {
     row(open(bytes, counts), k, i)
 }
+
+// The same for one section.
+pub fn kept_stretch(bytes: &[u8], counts: Counts, k: u32) -> &[u8]
+    requires { ⌜ readOf (now bytes) ≡ Reading.Accepted counts ⌝ }
+    ensures { λ r. ⌜ now r ≡ sectionOf (now (bytes .entry)) counts k ⌝ }
+{
+    stretch(open(bytes, counts), k)
+}
