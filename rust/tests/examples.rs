@@ -104,4 +104,8 @@ fn the_c_example() {
         assert_eq!(own.lines().count(), 1, "{name}");
         assert_eq!(run.status.code(), Some(status), "{name}");
     }
+    // what was settled and could not be written is told by the status
+    let full = fs::OpenOptions::new().write(true).open("/dev/full").unwrap();
+    let run = Command::new(&program).arg(repository().join("examples/worked-hour.sheet")).stdout(full).output().unwrap();
+    assert_eq!(run.status.code(), Some(2));
 }
