@@ -31,11 +31,14 @@ pub record Whole (s : List ℕ) (c : Counts) : Type 0 where
   pub agentBlanks : (i : ℕ) → i < c .agents → agentBlank (wordsAt s i) ≡ true
   pub agents : (i : ℕ) → i < c .agents → agentGood (agentAt s c i) ≡ true
   pub boundaryBlanks : (i : ℕ) → i < c .boundaries → rowBlank (wordsAt s (boundaryStart c + i)) ≡ true
-  pub boundaries : (i : ℕ) → i < c .boundaries → boundaryGood (kindAt s c (boundaryAt s c i .agent)) (boundaryAt s c i) ≡ true
+  pub boundaries : (i : ℕ)
+      → i < c .boundaries
+      → boundaryGood (kindAt s c (boundaryAt s c i .agent)) (boundaryAt s c i) ≡ true
   pub plantBlanks : (i : ℕ) → i < c .plants → rowBlank (wordsAt s (plantStart c + i)) ≡ true
   pub plants : (i : ℕ) → i < c .plants → plantGood (kindAt s c (plantAt s c i .agent)) (plantAt s c i) ≡ true
   pub contracts : (i : ℕ) → i < c .contracts
-      → contractGood (kindAt s c (contractAt s c i .seller)) (kindAt s c (contractAt s c i .buyer)) (contractAt s c i) ≡ true
+      → contractGood (kindAt s c (contractAt s c i .seller)) (kindAt s c (contractAt s c i .buyer)) (contractAt s c i)
+      ≡ true
 
 -- the counts are within their limits
 pub record Few (c : Counts) : Type 0 where
@@ -58,9 +61,6 @@ good-few c e₄ =
       plants = leb-true _ _ (and-right (a && b) p e₃);
       contracts = leb-true _ _ (and-right (a && b && p) k e₄);
     }
-
-pub few-good : (c : Counts) → Few c → countsGood c ≡ true
-few-good c f = rw (le-leb _ _ (f .agents), le-leb _ _ (f .boundaries), le-leb _ _ (f .plants), le-leb _ _ (f .contracts))
 
 -- a length that the layout says is never refused by 1
 layout-length : (n : ℕ) (c : Counts) → countsGood c ≡ true → n ≡ sheetLength c → lengthGood n ≡ true
@@ -91,14 +91,21 @@ module _ (s : List ℕ) where
         few = and-left (countsGood c) (eqb (length s) (sheetLength c)) m;
         long = eqb-true _ _ (and-right (countsGood c) (eqb (length s) (sheetLength c)) m);
         distances = and-right (countsGood c && eqb (length s) (sheetLength c)) (distancesGood s c) l;
-        agentBlanks = λ i h. and-left (agentBlank (wordsAt s i)) _ (fine-test _ _ _ (each-fine (agentVerdict s c) _ i a h));
+        agentBlanks =
+            λ i h. and-left (agentBlank (wordsAt s i)) _ (fine-test _ _ _ (each-fine (agentVerdict s c) _ i a h));
         agents = λ i h. and-right (agentBlank (wordsAt s i)) _ (fine-test _ _ _ (each-fine (agentVerdict s c) _ i a h));
         boundaryBlanks = λ i h.
-            and-left (rowBlank (wordsAt s (boundaryStart c + i))) _ (fine-test _ _ _ (each-fine (boundaryVerdict s c) _ i b h));
+            and-left (rowBlank (wordsAt s (boundaryStart c + i))) _
+            (fine-test _ _ _ (each-fine (boundaryVerdict s c) _ i b h));
         boundaries = λ i h.
-            and-right (rowBlank (wordsAt s (boundaryStart c + i))) _ (fine-test _ _ _ (each-fine (boundaryVerdict s c) _ i b h));
-        plantBlanks = λ i h. and-left (rowBlank (wordsAt s (plantStart c + i))) _ (fine-test _ _ _ (each-fine (plantVerdict s c) _ i p h));
-        plants = λ i h. and-right (rowBlank (wordsAt s (plantStart c + i))) _ (fine-test _ _ _ (each-fine (plantVerdict s c) _ i p h));
+            and-right (rowBlank (wordsAt s (boundaryStart c + i))) _
+            (fine-test _ _ _ (each-fine (boundaryVerdict s c) _ i b h));
+        plantBlanks =
+            λ i h. and-left (rowBlank (wordsAt s (plantStart c + i))) _
+            (fine-test _ _ _ (each-fine (plantVerdict s c) _ i p h));
+        plants =
+            λ i h. and-right (rowBlank (wordsAt s (plantStart c + i))) _
+            (fine-test _ _ _ (each-fine (plantVerdict s c) _ i p h));
         contracts = λ i h. fine-test _ _ _ (each-fine (contractVerdict s c) _ i k h);
       }
 
@@ -193,7 +200,8 @@ pub record PlantSound (s : List ℕ) (c : Counts) (i : ℕ) : Type 0 where
 pub record ContractSound (s : List ℕ) (c : Counts) (i : ℕ) : Type 0 where
   pub sellerThere : contractAt s c i .seller < c .agents
   pub buyerThere : contractAt s c i .buyer < c .agents
-  pub fits : ContractFits (kindAt s c (contractAt s c i .seller)) (kindAt s c (contractAt s c i .buyer)) (contractAt s c i)
+  pub fits : ContractFits (kindAt s c (contractAt s c i .seller)) (kindAt s c (contractAt s c i .buyer))
+      (contractAt s c i)
 
 module _ (s : List ℕ) (c : Counts) (e : readOf s ≡ Reading.Accepted c) where
   pub accepted-counts : c ≡ countsOf s

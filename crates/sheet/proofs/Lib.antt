@@ -1,3 +1,4 @@
 pub mod Accepted
 pub mod Sections
 pub mod Cases
+pub mod Walk

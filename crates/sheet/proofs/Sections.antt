@@ -28,7 +28,8 @@ unfolding rowsBefore rowsIn
 section-within c k = go (eqb k 1) (eqb k 2) (eqb k 3) (eqb k 4)
   where
     go : (x y z w : Bool)
-        → cond x 0 (cond y (c .agents) (cond z (c .agents + c .boundaries) (cond w (c .agents + c .boundaries + c .plants) 0)))
+        → cond x 0 (cond y (c .agents)
+        (cond z (c .agents + c .boundaries) (cond w (c .agents + c .boundaries + c .plants) 0)))
         + cond x (c .agents) (cond y (c .boundaries) (cond z (c .plants) (cond w (c .contracts) 0)))
         ≤ c .agents + c .boundaries + c .plants + c .contracts
     go true y z w = omega arith
@@ -39,7 +40,8 @@ section-within c k = go (eqb k 1) (eqb k 2) (eqb k 3) (eqb k 4)
 
 -- ---- reading, step by step
 pub has-trailer : (n : ℕ) → lengthGood n ≡ true → 32 ≤ n
-has-trailer n e = leb-true _ _ (and-left (leb 32 n) (leb n longest) (and-left (leb 32 n && leb n longest) (eqb (n % 16) 0) e))
+has-trailer n e =
+    leb-true _ _ (and-left (leb 32 n) (leb n longest) (and-left (leb 32 n && leb n longest) (eqb (n % 16) 0) e))
 
 module _ (s : List ℕ) where
   -- the agents' rows are the sheet's first
@@ -57,7 +59,8 @@ module _ (s : List ℕ) where
     read-crooked h = rw (e, h)
 
     pub read-rows : layoutGood s ≡ true → readOf s ≡ reading (rowsVerdict s (countsOf s)) (countsOf s)
-    unfolding readOf readVerdict rowsVerdict sectionVerdict rowVerdict rowGood rowsIn rowsBefore agentVerdict boundaryVerdict plantVerdict contractVerdict
+    unfolding readOf readVerdict rowsVerdict sectionVerdict rowVerdict rowGood rowsIn rowsBefore agentVerdict
+        boundaryVerdict plantVerdict contractVerdict
     read-rows h = rw (e, h, agents-told (countsOf s))
 
   -- a good layout has few rows, and the length that they ask for
@@ -155,6 +158,9 @@ module _ (s : List ℕ) (c : Counts) (e : readOf s ≡ Reading.Accepted c) where
   contract-row = section-row 4
 
   -- a row that is there is handed back
-  pub row-there : (k i : ℕ) → isSection k ≡ true → i < rowsIn c k → rowIn (readOf s) s k i ≡ RowRead.Row (fieldsAt s c k i)
+  pub row-there : (k i : ℕ)
+      → isSection k ≡ true
+      → i < rowsIn c k
+      → rowIn (readOf s) s k i ≡ RowRead.Row (fieldsAt s c k i)
   unfolding rowOf askedRow
   row-there k i h l = rw (e, h, lt-ltb _ _ l)

@@ -4,7 +4,12 @@ use Rattle.sheet.proofs.boundary_row_good.Tie as tie
 
 returns : tie.Need-returns
 returns c =
-    rw (c .boundary-good .ensures, c .before .kind-in .ensures, c .before .before .row-blank .ensures, c .before .before .before .boundary-of .ensures)
+    rw (
+      c .boundary-good .ensures,
+      c .before .kind-in .ensures,
+      c .before .before .row-blank .ensures,
+      c .before .before .before .boundary-of .ensures,
+    )
 
 pub boundary-row-good-spec : {M : Type 1} → statement M
 boundary-row-good-spec =

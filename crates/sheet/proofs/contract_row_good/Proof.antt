@@ -4,7 +4,12 @@ use Rattle.sheet.proofs.contract_row_good.Tie as tie
 
 returns : tie.Need-returns
 returns c =
-    rw (c .contract-good .ensures, c .before .kind-in2 .ensures, c .before .before .kind-in .ensures, c .before .before .before .contract-of .ensures)
+    rw (
+      c .contract-good .ensures,
+      c .before .kind-in2 .ensures,
+      c .before .before .kind-in .ensures,
+      c .before .before .before .contract-of .ensures,
+    )
 
 pub contract-row-good-spec : {M : Type 1} → statement M
 contract-row-good-spec =

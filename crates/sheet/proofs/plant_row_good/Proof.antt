@@ -4,7 +4,12 @@ use Rattle.sheet.proofs.plant_row_good.Tie as tie
 
 returns : tie.Need-returns
 returns c =
-    rw (c .plant-good .ensures, c .before .kind-in .ensures, c .before .before .row-blank .ensures, c .before .before .before .plant-of .ensures)
+    rw (
+      c .plant-good .ensures,
+      c .before .kind-in .ensures,
+      c .before .before .row-blank .ensures,
+      c .before .before .before .plant-of .ensures,
+    )
 
 pub plant-row-good-spec : {M : Type 1} → statement M
 plant-row-good-spec =

@@ -14,8 +14,11 @@ counts-of-requires c κs = has-trailer _ (sym (c .before .length-good .ensures) 
 
 layout-good-requires : tie.Need-layout-good-requires
 layout-good-requires c κs =
-    let e = c .before in
-    (has-trailer _ (sym (e .before .length-good .ensures) ∙ not-false _ (e .if1 .left)), c .counts-of .ensures .0, c .counts-of .ensures .1)
+    let e = c .before in (
+      has-trailer _ (sym (e .before .length-good .ensures) ∙ not-false _ (e .if1 .left)),
+      c .counts-of .ensures .0,
+      c .counts-of .ensures .1,
+    )
 
 returns-2 : tie.Need-returns-2
 returns-2 c =

@@ -7,7 +7,12 @@ returns c = rw (← (c .before .before) .row-at .ensures, ← (c .before) .row-g
 
 returns-2 : tie.Need-returns-2
 returns-2 c =
-    rw (c .refuse .ensures, ← (c .before .before .before) .row-at .ensures, ← (c .before .before) .row-good .ensures, (c .before) .if1 .left)
+    rw (
+      c .refuse .ensures,
+      ← (c .before .before .before) .row-at .ensures,
+      ← (c .before .before) .row-good .ensures,
+      (c .before) .if1 .left,
+    )
 
 pub read-row-spec : {M : Type 1} → statement M
 read-row-spec =

@@ -22,9 +22,12 @@ abbrev μ-loop : tie.MeasureT-loop
 
 -- the sections that the code cut out say what the sheet says
 cut : (c : tie.After-part-of2 Inv-loop μ-loop)
-    → firstBad (toldIn (c .before .part-of .result .now) (c .part-of2 .result .now) (c .before .before .before .args .k)) 0 (length (c .part-of2 .result .now) / 16)
-    ≡ sectionVerdict (c .before .before .before .args .s .now) (c .before .before .before .args .c) (c .before .before .before .args .k)
-cut c = rw (c .before .part-of .ensures, c .part-of2 .ensures) (section-told _ _ (c .before .before .before .pre .0 .0) _)
+    → firstBad (toldIn (c .before .part-of .result .now) (c .part-of2 .result .now)
+    (c .before .before .before .args .k)) 0 (length (c .part-of2 .result .now) / 16)
+    ≡ sectionVerdict (c .before .before .before .args .s .now) (c .before .before .before .args .c)
+    (c .before .before .before .args .k)
+cut c =
+    rw (c .before .part-of .ensures, c .part-of2 .ensures) (section-told _ _ (c .before .before .before .pre .0 .0) _)
 
 loop-holds : tie.Need-loop-holds Inv-loop μ-loop
 loop-holds c = from-start _ _
@@ -32,7 +35,9 @@ loop-holds c = from-start _ _
 read-row-requires : tie.Need-read-row-requires Inv-loop μ-loop
 read-row-requires c κs =
     let a = c .before .before .before .before .before in
-    let n = ap (λ (l : List ℕ). length l / 16) (c .before .before .part-of2 .ensures) ∙ part-count _ _ (a .pre .0 .0) (a .args .k) in
+    let n =
+    ap (λ (l : List ℕ). length l / 16) (c .before .before .part-of2 .ensures)
+    ∙ part-count _ _ (a .pre .0 .0) (a .args .k) in
     (a .pre .1, omega (arith, n, section-within (a .args .c) (a .args .k)))
 
 enum-told : tie.Need-enum-told Inv-loop μ-loop
@@ -41,12 +46,14 @@ enum-told c = search needs
 returns : tie.Need-returns Inv-loop μ-loop
 returns c =
     let told = c .enum-told2 .given .1 in
-    told ∙ sym (c .before .before .before .before .loop .inv ∙ bad-row _ _ _ _ (omega arith) (sym (c .before .before .read-row .ensures) ∙ told))
+    told ∙ sym (c .before .before .before .before .loop .inv
+    ∙ bad-row _ _ _ _ (omega arith) (sym (c .before .before .read-row .ensures) ∙ told))
     ∙ cut (c .before .before .before .before .before)
 
 loop-again : tie.Need-loop-again Inv-loop μ-loop
 loop-again c =
-    c .before .before .before .before .loop .inv ∙ good-row _ _ _ (omega arith) (sym (c .before .before .read-row .ensures) ∙ c .enum-told .given .1)
+    c .before .before .before .before .loop .inv
+    ∙ good-row _ _ _ (omega arith) (sym (c .before .before .read-row .ensures) ∙ c .enum-told .given .1)
 
 returns-2 : tie.Need-returns-2 Inv-loop μ-loop
 returns-2 c = sym (c .before .loop .inv ∙ none-bad _ _ _ (omega arith)) ∙ cut (c .before .before)

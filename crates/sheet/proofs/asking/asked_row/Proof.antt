@@ -15,7 +15,12 @@ returns-2 : tie.Need-returns-2
 unfolding askedRow
 returns-2 c =
     let e = c .before .before in
-    rw (← e .before .before .asked-section .ensures, e .enum-told .given .1, ← c .before .rows-in .ensures, lt-ltb _ _ (c .if1 .taken))
+    rw (
+      ← e .before .before .asked-section .ensures,
+      e .enum-told .given .1,
+      ← c .before .rows-in .ensures,
+      lt-ltb _ _ (c .if1 .taken),
+    )
 
 returns-3 : tie.Need-returns-3
 unfolding askedRow

@@ -15,7 +15,8 @@ fields-at-requires c κs =
 
 returns : tie.Need-returns
 unfolding rowOf
-returns c = rw (← c .before .before .before .asked-row .ensures, c .before .enum-told .given .1, ← c .fields-at .ensures)
+returns c =
+    rw (← c .before .before .before .asked-row .ensures, c .before .enum-told .given .1, ← c .fields-at .ensures)
 
 returns-2 : tie.Need-returns-2
 unfolding rowOf
