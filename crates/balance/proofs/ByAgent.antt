@@ -20,28 +20,29 @@ use Rattle.hour.specs.Sheet.{Sheet, agents, retails}
 use Rattle.hour.specs.Balance.{imported, exported, consumption, consumed, consumptions, ownImport, entering, leaving, losses, lossShare, commercial, hourDemand}
 use Rattle.hour.specs.Answer.{firstOver}
 use Rattle.hour.proofs.Demand.{weights-long}
-use Rattle.balance.specs.Balances.{zeros, Read}
+use Rattle.balance.specs.Balances.{zeros}
+use Rattle.balance.specs.Parts.{Read}
 
 module _ (h : Sheet) (n : ℕ) (kinds imports exports used : List ℕ) (r : Read h n kinds imports exports used) where
   pub over-is : first n (λ a. isRetailer (at kinds a) && ltb (at imports a) (at exports a)) ≡ firstOver h
   unfolding firstOver retails
   over-is =
-      rw (sym (r .count))
-      (first-eq (agents h) _ _
-      (λ a l. ap (λ (k : ℕ). isRetailer k && ltb (at imports a) (at exports a)) (r .kind a l)
+      rw (r .count)
+      (first-eq n _ _
+      (λ a l. ap (λ (k : ℕ). isRetailer k && ltb (at imports a) (at exports a)) (r .kind .done a l)
       ∙ ap₂ (λ (x y : ℕ). isRetailer (at (h .kinds) a) && ltb x y) (r .took a l) (r .gave a l)))
 
   pub entering-is : sum n (at exports) ≡ entering h
   unfolding entering
-  entering-is = rw (sym (r .count)) (sum-eq (agents h) _ _ (r .gave))
+  entering-is = rw (r .count) (sum-eq n _ _ (r .gave))
 
   pub leaving-is : sum n (at imports) ≡ leaving h
   unfolding leaving
-  leaving-is = rw (sym (r .count)) (sum-eq (agents h) _ _ (r .took))
+  leaving-is = rw (r .count) (sum-eq n _ _ (r .took))
 
   pub consumed-is : sum n (at used) ≡ consumed h
   unfolding consumed
-  consumed-is = rw (sym (r .count)) (sum-eq (agents h) _ _ (r .used))
+  consumed-is = rw (r .count) (sum-eq n _ _ (r .used .done))
 
 -- ---- one agent
 module _ (h : Sheet) (a k x y : ℕ) (p : k ≡ at (h .kinds) a) (q : x ≡ imported h a) where

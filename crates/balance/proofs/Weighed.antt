@@ -40,7 +40,10 @@ module _ (v : Verdict) (c : Counts) where
 
 -- ---- from an accepted sheet to its bytes
 module _ (s : List ℕ) where
-  pub weighed-read : (c : Counts) (r : Balance) → readOf s ≡ Reading.Accepted c → Balances (balanceVerdict (columnsOf s c)) c (columnsOf s c) r → Weighed s r
+  pub weighed-read : (c : Counts) (r : Balance)
+      → readOf s ≡ Reading.Accepted c
+      → Balances (balanceVerdict (columnsOf s c)) c (columnsOf s c) r
+      → Weighed s r
   unfolding weighVerdict hourOf
   weighed-read c r e b =
       let k : c ≡ countsOf s = accepted-counts s c e in
@@ -69,7 +72,8 @@ module _ (s : List ℕ) (r : Balance) (w : Weighed s r) where
 
   -- where it is fine, reading accepts it with these counts
   pub weighed-accepted : r .verdict ≡ Verdict.Fine → readOf s ≡ Reading.Accepted (r .counts)
-  weighed-accepted e = let v : weighVerdict s ≡ Verdict.Fine = sym (w .answer) ∙ e in rw (weighed-counts v) (read-first v)
+  weighed-accepted e =
+      let v : weighVerdict s ≡ Verdict.Fine = sym (w .answer) ∙ e in rw (weighed-counts v) (read-first v)
 
   pub weighed-few : r .counts .agents ≤ mostAgents
   weighed-few = go (weighVerdict s) refl
@@ -81,14 +85,22 @@ module _ (s : List ℕ) (r : Balance) (w : Weighed s r) where
 -- ---- two outcomes that meet the promise are one
 pub one-balance : {v : Verdict} {c : Counts} {h : Sheet} {q r : Balance} → Balances v c h q → Balances v c h r → q ≡ r
 one-balance {v} {c} {h} {q} {r} x y =
-    same q r (x .answer ∙ sym (y .answer)) (x .counts ∙ sym (y .counts)) (filled-unique 0 _ _ _ _ _ (x .kinds) (y .kinds)) (filled-unique 0 _ _ _ _ _ (x .shares) (y .shares))
+    same q r (x .answer ∙ sym (y .answer)) (x .counts ∙ sym (y .counts))
+    (filled-unique 0 _ _ _ _ _ (x .kinds) (y .kinds)) (filled-unique 0 _ _ _ _ _ (x .shares) (y .shares))
     (filled-unique 0 _ _ _ _ _ (x .commercial) (y .commercial)) (filled-unique 0 _ _ _ _ _ (x .imports) (y .imports))
     (x .losses ∙ sym (y .losses)) (x .demand ∙ sym (y .demand))
   where
     all : Verdict → Counts → (kinds shares commercial imports : List ℕ) (losses demand : ℕ) → Balance
-    all v n k s c i l d = record { verdict = v; counts = n; kinds = k; shares = s; commercial = c; imports = i; losses = l; demand = d }
+    all v n k s c i l d =
+        record { verdict = v; counts = n; kinds = k; shares = s; commercial = c; imports = i; losses = l; demand = d }
 
-    same : (q r : Balance) → q .verdict ≡ r .verdict → q .counts ≡ r .counts → q .kinds ≡ r .kinds → q .shares ≡ r .shares → q .commercial ≡ r .commercial
+    same : (q r : Balance)
+        → q .verdict ≡ r .verdict
+        → q .counts ≡ r .counts
+        → q .kinds ≡ r .kinds
+        → q .shares ≡ r .shares
+        → q .commercial ≡ r .commercial
         → q .imports ≡ r .imports → q .losses ≡ r .losses → q .demand ≡ r .demand
-        → all (q .verdict) (q .counts) (q .kinds) (q .shares) (q .commercial) (q .imports) (q .losses) (q .demand) ≡ all (r .verdict) (r .counts) (r .kinds) (r .shares) (r .commercial) (r .imports) (r .losses) (r .demand)
+        → all (q .verdict) (q .counts) (q .kinds) (q .shares) (q .commercial) (q .imports) (q .losses) (q .demand)
+        ≡ all (r .verdict) (r .counts) (r .kinds) (r .shares) (r .commercial) (r .imports) (r .losses) (r .demand)
     same q r v n k s c i l d = rw (v, n, k, s, c, i, l, d)

@@ -1,5 +1,5 @@
 -- Document 01, 'From readings to commercial demand': what weighing the readings of a sheet answers. Assumes nothing.
-use Prim.Native.Nat.{ℕ, _<_}
+use Prim.Native.Nat.{ℕ}
 use mathlib.Core.List.{List}
 use mathlib.Core.Path.{_≡_}
 use lib.ListN.{replicate}
@@ -11,7 +11,7 @@ use Rattle.sheet.specs.Reading.{readVerdict, countsOf}
 use Rattle.sheet.specs.declared.Counts.{Counts}
 use Rattle.columns.specs.Columns.{hourOf}
 use Rattle.hour.specs.Sheet.{Sheet, agents}
-use Rattle.hour.specs.Balance.{imported, exported, consumption, ownImport, losses, lossShare, commercial, hourDemand}
+use Rattle.hour.specs.Balance.{ownImport, losses, lossShare, commercial, hourDemand}
 use Rattle.hour.specs.Answer.{balanceVerdict}
 use Rattle.balance.specs.declared.Balance.{Balance}
 
@@ -60,16 +60,3 @@ weighVerdict bytes = orElse (readVerdict bytes) (balanceVerdict (hourOf bytes))
 -- the promise of weighing
 abbrev pub Weighed : (bytes : List ℕ) → Balance → Type 0
 Weighed bytes r = Balances (weighVerdict bytes) (countsOf bytes) (hourOf bytes) r
-
--- what each agent took and delivered, all its rows together
-pub record Metered (h : Sheet) (imports exports : List ℕ) : Type 0 where
-  pub took : (a : ℕ) → a < mostAgents → at imports a ≡ imported h a
-  pub gave : (a : ℕ) → a < mostAgents → at exports a ≡ exported h a
-
--- the same of n agents, with their kinds and consumptions
-pub record Read (h : Sheet) (n : ℕ) (kinds imports exports consumptions : List ℕ) : Type 0 where
-  pub count : agents h ≡ n
-  pub kind : (a : ℕ) → a < agents h → at kinds a ≡ at (h .kinds) a
-  pub took : (a : ℕ) → a < agents h → at imports a ≡ imported h a
-  pub gave : (a : ℕ) → a < agents h → at exports a ≡ exported h a
-  pub used : (a : ℕ) → a < agents h → at consumptions a ≡ consumption h a

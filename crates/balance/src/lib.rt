@@ -2,6 +2,7 @@
 use refusals::Refusal;
 use refusals::Verdict;
 use rows::Agent;
+use rows::Boundary;
 use sheet::Counts;
 use sheet::Reading;
 ghost use mathlib.Core.Path.{_≡_};
@@ -12,45 +13,48 @@ ghost use lib.ListN.{length};
 ghost use Rattle.sums.specs.Sums.{sum, pick, first};
 ghost use Rattle.sums.specs.Lists.{at, Filled};
 ghost use Rattle.refusals.specs.Refusals.{cells};
-ghost use Rattle.rows.specs.Limits.{mostAgents, mostEnergy, mostFactor};
-ghost use Rattle.rows.specs.Bytes.{wordsAt};
-ghost use Rattle.rows.specs.Rows.{agentOf, isRetailer};
+ghost use Rattle.rows.specs.Limits.{mostAgents, mostFactor, mostReading};
+ghost use Rattle.rows.specs.Rows.{isRetailer};
 ghost use Rattle.sheet.specs.Reading.{readOf};
 ghost use Rattle.sheet.specs.declared.Reading.{Reading};
 ghost use Rattle.columns.specs.Columns.{columnsOf};
 ghost use Rattle.hour.specs.Sheet.{Sheet, agents};
 ghost use Rattle.hour.specs.Balance.{referred};
 ghost use Rattle.hour.specs.Answer.{balanceVerdict};
-ghost use Rattle.balance.specs.Balances.{zeros, nothing, Balances, Weighed, Metered, Read};
+ghost use Rattle.balance.specs.Balances.{zeros, nothing, Balances, Weighed};
+ghost use Rattle.balance.specs.Parts.{Metered, Read};
 
 // A sheet's balance, agent by agent, with the counts that reading gave. A refused one is all zeros.
 pub struct Balance {
     pub verdict: Verdict,
     pub counts: Counts,
-    pub kinds: [u32; 64],
-    pub shares: [u32; 64],
-    pub commercial: [u32; 64],
-    pub imports: [u32; 64],
+    pub kinds: [u32; Agent::MOST],
+    pub shares: [u32; Agent::MOST],
+    pub commercial: [u32; Agent::MOST],
+    pub imports: [u32; Agent::MOST],
     pub losses: u32,
     pub demand: u32,
 }
 
 // One reading, referred.
 fn refer(reading: u32, factor: u32) -> u32
-    requires { ⌜ (reading ≤ mostEnergy) × (factor ≤ mostFactor) ⌝ }
+    requires { ⌜ (reading ≤ mostReading) × (factor ≤ mostFactor) ⌝ }
     ensures { λ r. ⌜ r ≡ referred reading factor ⌝ }
 {
     ((sums::wide(reading) * sums::wide(10000 + factor) + 5000) / 10000) as u32
 }
 
-// The kinds of the first n agents.
-fn kinds_of(s: &[u8], n: usize, out: &mut [u32])
-    requires { ⌜ (n ≤ mostAgents) × (n ≤ length (now out)) ⌝ }
-    ensures { λ _. ⌜ Filled 0 (now (out .entry)) (now (out .exit)) n (λ a. agentOf (wordsAt (now (s .entry)) a) .kind) ⌝ }
+// The agents' kinds.
+fn kinds_of(s: &[u8], c: Counts, out: &mut [u32])
+    requires { ⌜ readOf (now s) ≡ Reading.Accepted c ⌝ }
+    requires { ⌜ c .agents ≤ length (now out) ⌝ }
+    ensures { λ _. ⌜ Filled 0 (now (out .entry)) (now (out .exit)) (c .agents) (at (columnsOf (now (s .entry)) c .kinds)) ⌝ }
 {
+    let section = sheet::asking::section_of(s, c, Agent::SECTION);
+    let n = c.agents;
     let mut a = 0;
     while a < n {
-        out[a] = rows::agent_of(rows::row_at(s, a)).kind;
+        out[a] = rows::agent_of(rows::row_at(section, a)).kind;
         a += 1;
     }
 }
@@ -61,11 +65,11 @@ fn meter(s: &[u8], c: Counts, imports: &mut [u32], exports: &mut [u32])
     requires { ⌜ (now imports ≡ zeros) × (now exports ≡ zeros) ⌝ }
     ensures { λ _. ⌜ Metered (columnsOf (now (s .entry)) c) (now (imports .exit)) (now (exports .exit)) ⌝ }
 {
-    let start = c.agents;
+    let section = sheet::asking::section_of(s, c, Boundary::SECTION);
     let n = c.boundaries;
     let mut j = 0;
     while j < n {
-        let b = rows::boundary_of(rows::row_at(s, start + j));
+        let b = rows::boundary_of(rows::row_at(section, j));
         let a = b.agent as usize;
         imports[a] = imports[a] + refer(b.import, b.factor);
         exports[a] = exports[a] + refer(b.export, b.factor);
@@ -88,14 +92,8 @@ fn of_generator(kind: u32, v: u32) -> u32
 }
 
 // A retailer's imports less its exports; nothing of a generator.
-fn consumptions(
-    kinds: &[u32; 64],
-    imports: &[u32; 64],
-    exports: &[u32; 64],
-    n: usize,
-    out: &mut [u32],
-)
-    requires { ⌜ (n ≤ mostAgents) × (n ≤ length (now out)) ⌝ }
+fn consumptions(kinds: &[u32], imports: &[u32], exports: &[u32], n: usize, out: &mut [u32])
+    requires { ⌜ (n ≤ length (now kinds)) × (n ≤ length (now imports)) × (n ≤ length (now exports)) × (n ≤ length (now out)) ⌝ }
     ensures { λ _. ⌜ Filled 0 (now (out .entry)) (now (out .exit)) n (λ a. pick (isRetailer (at (now (kinds .entry)) a)) (at (now (imports .entry)) a - at (now (exports .entry)) a)) ⌝ }
 {
     let mut a = 0;
@@ -106,7 +104,7 @@ fn consumptions(
 }
 
 // A generator's imports; nothing of a retailer.
-fn own_imports(kinds: &[u32; 64], imports: &[u32; 64], n: usize, out: &mut [u32])
+fn own_imports(kinds: &[u32; Agent::MOST], imports: &[u32; Agent::MOST], n: usize, out: &mut [u32])
     requires { ⌜ (n ≤ mostAgents) × (n ≤ length (now out)) ⌝ }
     ensures { λ _. ⌜ Filled 0 (now (out .entry)) (now (out .exit)) n (λ a. pick (not (isRetailer (at (now (kinds .entry)) a))) (at (now (imports .entry)) a)) ⌝ }
 {
@@ -118,7 +116,7 @@ fn own_imports(kinds: &[u32; 64], imports: &[u32; 64], n: usize, out: &mut [u32]
 }
 
 // Two columns added.
-fn added(xs: &[u32; 64], ys: &[u32; 64], n: usize, out: &mut [u32])
+fn added(xs: &[u32; Agent::MOST], ys: &[u32; Agent::MOST], n: usize, out: &mut [u32])
     requires { ⌜ (n ≤ mostAgents) × (n ≤ length (now out)) ⌝ }
     requires { ⌜ ((a : ℕ) → a < n → at (now xs) a + at (now ys) a ≤ 4294967295) ⌝ }
     ensures { λ _. ⌜ Filled 0 (now (out .entry)) (now (out .exit)) n (λ a. at (now (xs .entry)) a + at (now (ys .entry)) a) ⌝ }
@@ -131,7 +129,7 @@ fn added(xs: &[u32; 64], ys: &[u32; 64], n: usize, out: &mut [u32])
 }
 
 // The sum of a column's first n cells.
-fn total(values: &[u32; 64], n: usize) -> u32
+fn total(values: &[u32; Agent::MOST], n: usize) -> u32
     requires { ⌜ (n ≤ mostAgents) × (sum n (at (now values)) ≤ 4294967295) ⌝ }
     ensures { λ r. ⌜ r ≡ sum n (at (now (values .entry))) ⌝ }
 {
@@ -152,7 +150,12 @@ fn is_over(kind: u32, import: u32, export: u32) -> bool
 }
 
 // The lowest such agent, or n.
-fn first_over(kinds: &[u32; 64], imports: &[u32; 64], exports: &[u32; 64], n: usize) -> usize
+fn first_over(
+    kinds: &[u32; Agent::MOST],
+    imports: &[u32; Agent::MOST],
+    exports: &[u32; Agent::MOST],
+    n: usize,
+) -> usize
     requires { ⌜ n ≤ mostAgents ⌝ }
     ensures { λ r. ⌜ r ≡ first n (λ a. isRetailer (at (now (kinds .entry)) a) && ltb (at (now (imports .entry)) a) (at (now (exports .entry)) a)) ⌝ }
 {
@@ -175,10 +178,10 @@ fn carried(losses: u32, consumed: u32) -> bool
 
 // Refusals 7 to 9, in this order.
 fn judge(
-    kinds: &[u32; 64],
-    imports: &[u32; 64],
-    exports: &[u32; 64],
-    consumption: &[u32; 64],
+    kinds: &[u32; Agent::MOST],
+    imports: &[u32; Agent::MOST],
+    exports: &[u32; Agent::MOST],
+    consumption: &[u32; Agent::MOST],
     n: usize,
 ) -> Verdict
     requires { ⌜ (n ≤ mostAgents) × (sum n (at (now imports)) ≤ 4294967295) × (sum n (at (now exports)) ≤ 4294967295) × (sum n (at (now consumption)) ≤ 4294967295) ⌝ }
@@ -210,13 +213,31 @@ fn turned_away(verdict: Verdict) -> Balance
             plants: 0,
             contracts: 0,
         },
-        kinds: [0u32; 64],
-        shares: [0u32; 64],
-        commercial: [0u32; 64],
-        imports: [0u32; 64],
+        kinds: [0u32; Agent::MOST],
+        shares: [0u32; Agent::MOST],
+        commercial: [0u32; Agent::MOST],
+        imports: [0u32; Agent::MOST],
         losses: 0,
         demand: 0,
     }
+}
+
+// What each agent is, took, delivered and consumed, each into its column.
+fn read_columns(
+    s: &[u8],
+    c: Counts,
+    kinds: &mut [u32],
+    imports: &mut [u32],
+    exports: &mut [u32],
+    consumption: &mut [u32],
+)
+    requires { ⌜ readOf (now s) ≡ Reading.Accepted c ⌝ }
+    requires { ⌜ (now kinds ≡ zeros) × (now imports ≡ zeros) × (now exports ≡ zeros) × (now consumption ≡ zeros) ⌝ }
+    ensures { λ _. ⌜ Read (columnsOf (now (s .entry)) c) (c .agents) (now (kinds .exit)) (now (imports .exit)) (now (exports .exit)) (now (consumption .exit)) ⌝ }
+{
+    kinds_of(s, c, kinds);
+    meter(s, c, imports, exports);
+    consumptions(kinds, imports, exports, c.agents, consumption);
 }
 
 // The balance of a sheet that reading accepts with these counts.
@@ -225,23 +246,28 @@ fn weigh_read(s: &[u8], c: Counts) -> Balance
     ensures { λ r. ⌜ Balances (balanceVerdict (columnsOf (now (s .entry)) c)) c (columnsOf (now (s .entry)) c) r ⌝ }
 {
     let n = c.agents;
-    let mut kinds = [0u32; 64];
-    kinds_of(s, n, &mut kinds);
-    let mut imports = [0u32; 64];
-    let mut exports = [0u32; 64];
-    meter(s, c, &mut imports, &mut exports);
-    let mut consumption = [0u32; 64];
-    consumptions(&kinds, &imports, &exports, n, &mut consumption);
+    let mut kinds = [0u32; Agent::MOST];
+    let mut imports = [0u32; Agent::MOST];
+    let mut exports = [0u32; Agent::MOST];
+    let mut consumption = [0u32; Agent::MOST];
+    read_columns(
+        s,
+        c,
+        &mut kinds,
+        &mut imports,
+        &mut exports,
+        &mut consumption,
+    );
     let verdict = judge(&kinds, &imports, &exports, &consumption, n);
     let Verdict::Fine = verdict else {
         return turned_away(verdict);
     };
     let losses = total(&exports, n) - total(&imports, n);
-    let mut shares = [0u32; 64];
+    let mut shares = [0u32; Agent::MOST];
     share::share(losses, &consumption[..n], &mut shares);
-    let mut commercial = [0u32; 64];
+    let mut commercial = [0u32; Agent::MOST];
     added(&consumption, &shares, n, &mut commercial);
-    let mut own = [0u32; 64];
+    let mut own = [0u32; Agent::MOST];
     own_imports(&kinds, &imports, n, &mut own);
     let demand = total(&commercial, n) + total(&own, n);
     Balance {

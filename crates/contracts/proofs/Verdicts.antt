@@ -15,29 +15,35 @@ use Rattle.refusals.proofs.FirstBad.{good-row, bad-row}
 use Rattle.refusals.specs.Refusals.{refusal, refused, refusedUnless, firstBad, orElse, cells, badLayout, badContract, noRoom}
 use Rattle.refusals.specs.declared.Refusal.{Refusal}
 use Rattle.refusals.specs.declared.Verdict.{Verdict}
-use Rattle.rows.specs.Limits.{mostAgents, mostContracts, mostEnergy, mostPrice}
+use Rattle.rows.specs.Limits.{mostAgents, mostContracts, mostQuantity, mostPrice}
 use Rattle.rows.specs.declared.Contract.{Contract}
 use Rattle.deals.specs.Deals.{fixed, demanded}
 use Rattle.deals.specs.Hour.{hourAmount}
-use Rattle.contracts.specs.Assign.{countIn, rowIn, rowsIn, rowCount, layoutGood, rowGood, rowVerdict, layoutVerdict, rowsVerdict, roomVerdict, assignVerdict, Assigned, Ready}
-use Rattle.contracts.specs.Keys.{Keyed}
+use Rattle.contracts.specs.Assign.{countIn, dealIn, dealsIn, sectionFits, dealGood, dealVerdict, layoutVerdict, dealsVerdict, amountsVerdict, assignVerdict, Assigned}
+use Rattle.contracts.specs.Keys.{Keyed, rowCount, Ready}
 use Rattle.contracts.proofs.Section.{count-is, buyer-in, kind-in, price-in}
 
 -- ---- what the layout's test tells
 module _ (s ds : List ℕ) where
   pub record Laid : Type 0 where
     pub whole : length s % 16 ≡ 0
-    pub few : countIn s ≤ 256
-    pub agents : length ds ≤ 64
+    pub few : countIn s ≤ mostContracts
+    pub agents : length ds ≤ mostAgents
 
-  pub laid : layoutGood s ds ≡ true → Laid
+  pub laid : sectionFits s ds ≡ true → Laid
   laid e =
-      let all = all-true (eqb (length s % 16) 0) ((leb (countIn s) mostContracts && leb (length ds) mostAgents) ∷ []) e in
+      let all =
+      all-true (eqb (length s % 16) 0) ((leb (countIn s) mostContracts && leb (length ds) mostAgents) ∷ []) e in
       let few = all-true (leb (countIn s) mostContracts) (leb (length ds) mostAgents ∷ []) (all .1 .0) in
       record { whole = eqb-true _ _ (all .0); few = leb-true _ _ (few .0); agents = leb-true _ _ (few .1 .0) }
 
-  layout-holds : Laid → layoutGood s ds ≡ true
-  layout-holds r = rw (eq-eqb (length s % 16) 0 (r .whole), le-leb (countIn s) mostContracts (r .few), le-leb (length ds) mostAgents (r .agents))
+  layout-holds : Laid → sectionFits s ds ≡ true
+  layout-holds r =
+      rw (
+        eq-eqb (length s % 16) 0 (r .whole),
+        le-leb (countIn s) mostContracts (r .few),
+        le-leb (length ds) mostAgents (r .agents),
+      )
 
 -- ---- what the test of a row tells
 module _ (a : ℕ) (k : Contract) where
@@ -46,16 +52,16 @@ module _ (a : ℕ) (k : Contract) where
     pub least : fixed ≤ k .kind
     pub most : k .kind ≤ demanded
     pub price : k .price ≤ mostPrice
-    pub quantity : k .quantity ≤ mostEnergy
+    pub quantity : k .quantity ≤ mostQuantity
 
   abbrev sizeGood : Bool
-  sizeGood = leb (k .price) mostPrice && leb (k .quantity) mostEnergy
+  sizeGood = leb (k .price) mostPrice && leb (k .quantity) mostQuantity
 
-  row-tells : rowGood a k ≡ true → Row
+  row-tells : dealGood a k ≡ true → Row
   row-tells e =
       let all = all-true (ltb (k .buyer) a) ((leb fixed (k .kind) && leb (k .kind) demanded && sizeGood) ∷ []) e in
       let kind = all-true (leb fixed (k .kind)) (leb (k .kind) demanded ∷ sizeGood ∷ []) (all .1 .0) in
-      let size = all-true (leb (k .price) mostPrice) (leb (k .quantity) mostEnergy ∷ []) (kind .1 .1 .0) in
+      let size = all-true (leb (k .price) mostPrice) (leb (k .quantity) mostQuantity ∷ []) (kind .1 .1 .0) in
       record {
         buyer = ltb-true _ _ (all .0);
         least = leb-true _ _ (kind .0);
@@ -64,25 +70,27 @@ module _ (a : ℕ) (k : Contract) where
         quantity = leb-true _ _ (size .1 .0);
       }
 
-  row-holds : Row → rowGood a k ≡ true
+  row-holds : Row → dealGood a k ≡ true
   row-holds r =
       rw (
         lt-ltb (k .buyer) a (r .buyer),
         le-leb fixed (k .kind) (r .least),
         le-leb (k .kind) demanded (r .most),
         le-leb (k .price) mostPrice (r .price),
-        le-leb (k .quantity) mostEnergy (r .quantity),
+        le-leb (k .quantity) mostQuantity (r .quantity),
       )
 
 module _ (s ds out : List ℕ) where
   -- a call that is not refused has rows that nothing is wrong with, and room for them
-  pub fine-ready : assignVerdict s ds out ≡ Verdict.Fine → Ready (rowsIn s) ds × (countIn s ≤ length out)
+  pub fine-ready : assignVerdict s ds out ≡ Verdict.Fine → Ready (dealsIn s) ds × (countIn s ≤ length out)
   fine-ready e =
-      let all = fine-parts (layoutVerdict s ds ∷ rowsVerdict s (length ds) ∷ roomVerdict s out ∷ []) e in
-      let a : Laid s ds = laid s ds (fine-test (layoutGood s ds) badLayout 0 (all .0)) in
-      let row : (i : ℕ) → i < countIn s → Row (length ds) (rowIn s i) =
-      λ i l. row-tells (length ds) (rowIn s i) (fine-test (rowGood (length ds) (rowIn s i)) badContract i (each-fine (rowVerdict s (length ds)) (countIn s) i (all .1 .0) l)) in
-      let among : (i : ℕ) → i < rowCount (rowsIn s) → i < countIn s = λ i l. omega (arith, count-is s) in (
+      let all = fine-parts (layoutVerdict s ds ∷ dealsVerdict s (length ds) ∷ amountsVerdict s out ∷ []) e in
+      let a : Laid s ds = laid s ds (fine-test (sectionFits s ds) badLayout 0 (all .0)) in
+      let row : (i : ℕ) → i < countIn s → Row (length ds) (dealIn s i) =
+      λ i l. row-tells (length ds) (dealIn s i)
+      (fine-test (dealGood (length ds) (dealIn s i)) badContract i
+      (each-fine (dealVerdict s (length ds)) (countIn s) i (all .1 .0) l)) in
+      let among : (i : ℕ) → i < rowCount (dealsIn s) → i < countIn s = λ i l. omega (arith, count-is s) in (
         record {
           few = omega (arith, count-is s, a .few);
           agents = a .agents;
@@ -95,43 +103,62 @@ module _ (s ds out : List ℕ) where
       )
 
   -- ROWS THAT WERE READ ARE NEVER REFUSED
-  pub assign-fine : Laid s ds → ((i : ℕ) → i < countIn s → Row (length ds) (rowIn s i)) → countIn s ≤ length out → assignVerdict s ds out ≡ Verdict.Fine
+  pub assign-fine : Laid s ds
+      → ((i : ℕ) → i < countIn s → Row (length ds) (dealIn s i))
+      → countIn s ≤ length out
+      → assignVerdict s ds out ≡ Verdict.Fine
   assign-fine a h l =
-      parts-fine (layoutVerdict s ds ∷ rowsVerdict s (length ds) ∷ roomVerdict s out ∷ []) (
+      parts-fine (layoutVerdict s ds ∷ dealsVerdict s (length ds) ∷ amountsVerdict s out ∷ []) (
         ap (λ (t : Bool). refusedUnless t badLayout 0) (layout-holds s ds a),
         (
-          all-fine (rowVerdict s (length ds)) (countIn s) (λ i m. ap (λ (t : Bool). refusedUnless t badContract i) (row-holds (length ds) (rowIn s i) (h i m))),
+          all-fine (dealVerdict s (length ds)) (countIn s)
+              (λ i m. ap (λ (t : Bool). refusedUnless t badContract i) (row-holds (length ds) (dealIn s i) (h i m))),
           (ap (λ (t : Bool). refusedUnless t noRoom 0) (le-leb (countIn s) (length out) l), tt),
         ),
       )
 
 -- ---- the pass over the rows, at row i, with k what it says and v its key
-module _ (s : List ℕ) (agents i : ℕ) (l : i < countIn s) (here : rowsVerdict s agents ≡ firstBad (rowVerdict s agents) i (countIn s - i)) (good : Bool) (is : good ≡ rowGood agents (rowIn s i)) where
-  row-is : (t : Bool) → good ≡ t → rowVerdict s agents i ≡ refusedUnless t badContract i
+module _ (s : List ℕ) (agents i : ℕ) (l : i < countIn s)
+    (here : dealsVerdict s agents ≡ firstBad (dealVerdict s agents) i (countIn s - i)) (good : Bool)
+    (is : good ≡ dealGood agents (dealIn s i)) where
+  row-is : (t : Bool) → good ≡ t → dealVerdict s agents i ≡ refusedUnless t badContract i
   row-is t e = ap (λ (u : Bool). refusedUnless u badContract i) (sym is ∙ e)
 
-  pub row-stop : (v : Verdict) → v ≡ refused badContract i → good ≡ false → (before after : List ℕ) → Keyed (rowsVerdict s agents) s before v after
+  pub row-stop : (v : Verdict)
+      → v ≡ refused badContract i
+      → good ≡ false
+      → (before after : List ℕ)
+      → Keyed (dealsVerdict s agents) s before v after
   row-stop v e f before after =
       record {
-        answer = e ∙ sym (here ∙ bad-row (rowVerdict s agents) (countIn s) i (refusal badContract i) l (row-is false f));
+        answer =
+            e ∙ sym (here ∙ bad-row (dealVerdict s agents) (countIn s) i (refusal badContract i) l (row-is false f));
         keys = λ z. not-fine (refusal badContract i) (sym e ∙ z);
       }
 
-  pub row-pass : good ≡ true → rowsVerdict s agents ≡ firstBad (rowVerdict s agents) (i + 1) (countIn s - (i + 1))
-  row-pass f = here ∙ good-row (rowVerdict s agents) (countIn s) i l (row-is true f)
+  pub row-pass : good ≡ true → dealsVerdict s agents ≡ firstBad (dealVerdict s agents) (i + 1) (countIn s - (i + 1))
+  row-pass f = here ∙ good-row (dealVerdict s agents) (countIn s) i l (row-is true f)
 
 -- ---- the verdict as it is come to
 module _ (s ds out before : List ℕ) where
-  pub judge-layout : (v : Verdict) (after : List ℕ) → v ≡ refused badLayout 0 → layoutGood s ds ≡ false → Keyed (assignVerdict s ds out) s before v after
+  pub judge-layout : (v : Verdict) (after : List ℕ)
+      → v ≡ refused badLayout 0
+      → sectionFits s ds ≡ false
+      → Keyed (assignVerdict s ds out) s before v after
   judge-layout v after e f =
       record {
-        answer = e ∙ sym (ap (λ (t : Bool). orElse (refusedUnless t badLayout 0) (orElse (rowsVerdict s (length ds)) (orElse (roomVerdict s out) Verdict.Fine))) f);
+        answer =
+            e ∙ sym (ap (λ (t : Bool). orElse (refusedUnless t badLayout 0)
+            (orElse (dealsVerdict s (length ds)) (orElse (amountsVerdict s out) Verdict.Fine))) f);
         keys = λ z. not-fine (refusal badLayout 0) (sym e ∙ z);
       }
 
   -- a bad row is told before a short list
-  pub judge-rest : (v w x : Verdict) (fits : Bool) (after : List ℕ) → layoutGood s ds ≡ true → Keyed (rowsVerdict s (length ds)) s before v after
-      → fits ≡ leb (countIn s) (length out) → w ≡ refusedUnless fits noRoom 0 → x ≡ orElse v w → Keyed (assignVerdict s ds out) s before x after
+  pub judge-rest : (v w x : Verdict) (fits : Bool) (after : List ℕ)
+      → sectionFits s ds ≡ true
+      → Keyed (dealsVerdict s (length ds)) s before v after
+      → fits ≡ leb (countIn s) (length out) → w ≡ refusedUnless fits noRoom 0 → x ≡ orElse v w
+      → Keyed (assignVerdict s ds out) s before x after
   judge-rest v w x fits after good k f g e =
       record {
         answer = rw (e, k .answer, g, f, good, else-fine);
@@ -140,13 +167,37 @@ module _ (s ds out before : List ℕ) where
 
 -- ---- a refusal writes no cell, and fine rows are all written
 module _ (s ds before : List ℕ) where
-  pub assigned-not : (v : Verdict) (r : Refusal) → v ≡ assignVerdict s ds before → v ≡ Verdict.Refused r → Assigned s ds before v before
-  assigned-not v r e f = record { answer = e; result = filled-count 0 before before 0 (cells (assignVerdict s ds before) (countIn s)) (hourAmount (rowsIn s) ds) (ap (λ (w : Verdict). cells w (countIn s)) (sym f ∙ e)) (filled-none 0 before (hourAmount (rowsIn s) ds)) }
+  pub assigned-not : (v : Verdict) (r : Refusal)
+      → v ≡ assignVerdict s ds before
+      → v ≡ Verdict.Refused r
+      → Assigned s ds before v before
+  assigned-not v r e f =
+      record {
+        answer = e;
+        result =
+            filled-count 0 before before 0 (cells (assignVerdict s ds before) (countIn s)) (hourAmount (dealsIn s) ds)
+            (ap (λ (w : Verdict). cells w (countIn s)) (sym f ∙ e)) (filled-none 0 before (hourAmount (dealsIn s) ds));
+      }
 
-  pub assigned-all : (after : List ℕ) → Verdict.Fine ≡ assignVerdict s ds before → Filled 0 before after (countIn s) (hourAmount (rowsIn s) ds) → Assigned s ds before Verdict.Fine after
-  assigned-all after e f = record { answer = e; result = filled-count 0 before after (countIn s) (cells (assignVerdict s ds before) (countIn s)) (hourAmount (rowsIn s) ds) (ap (λ (w : Verdict). cells w (countIn s)) e) f }
+  pub assigned-all : (after : List ℕ)
+      → Verdict.Fine ≡ assignVerdict s ds before
+      → Filled 0 before after (countIn s) (hourAmount (dealsIn s) ds)
+      → Assigned s ds before Verdict.Fine after
+  assigned-all after e f =
+      record {
+        answer = e;
+        result =
+            filled-count 0 before after (countIn s) (cells (assignVerdict s ds before) (countIn s))
+            (hourAmount (dealsIn s) ds) (ap (λ (w : Verdict). cells w (countIn s)) e) f;
+      }
 
 -- TWO OUTCOMES THAT MEET THE PROMISE ARE EQUAL
-pub one-outcome : {s ds before : List ℕ} {r q : Verdict} {l m : List ℕ} → Assigned s ds before r l → Assigned s ds before q m → (r ≡ q) × (l ≡ m)
-one-outcome {s} {ds} {before} {r} {q} {l} {m} a b =
-    (a .answer ∙ sym (b .answer), filled-unique 0 before l m (cells (assignVerdict s ds before) (countIn s)) (hourAmount (rowsIn s) ds) (a .result) (b .result))
+pub one-outcome : {s ds before : List ℕ} {r q : Verdict} {l m : List ℕ}
+    → Assigned s ds before r l
+    → Assigned s ds before q m
+    → (r ≡ q) × (l ≡ m)
+one-outcome {s} {ds} {before} {r} {q} {l} {m} a b = (
+  a .answer ∙ sym (b .answer),
+  filled-unique 0 before l m (cells (assignVerdict s ds before) (countIn s)) (hourAmount (dealsIn s) ds) (a .result)
+      (b .result),
+)

@@ -14,12 +14,23 @@ ghost use lib.ListN.{length};
 ghost use Rattle.sums.specs.Sums.{pick};
 ghost use Rattle.sums.specs.Lists.{at, Filled};
 ghost use Rattle.refusals.specs.Refusals.{refusedUnless, orElse, noRoom};
+ghost use Rattle.rows.specs.Limits.{mostContracts};
 ghost use Rattle.deals.specs.Hour.{hourAmount};
-ghost use Rattle.contracts.specs.Assign.{countIn, rowIn, rowsIn, layoutGood, rowGood, rowsVerdict, assignVerdict, Assigned, Ready};
-ghost use Rattle.contracts.specs.Keys.{keyOf, keyIn, rowOf, Keyed};
+ghost use Rattle.contracts.specs.Assign.{countIn, dealIn, dealsIn, sectionFits, dealGood, dealsVerdict, assignVerdict, Assigned};
+ghost use Rattle.contracts.specs.Keys.{rowSpan, dealKey, keyIn, keyRow, Keyed, Ready};
 ghost use Rattle.contracts.specs.Walk.{Rowed, Scattered};
 
 // ---- the key of each row, by which the rows are put in order
+
+// The rows, and the prices, that a key has room for.
+pub(crate) const ROW_SPAN: u64 = 256;
+
+const PRICE_SPAN: u64 = 1048576;
+
+// How far the bit for kind 3, and the buyer, stand from its end.
+pub(crate) const SIDE_SPAN: u64 = 536870912;
+
+pub(crate) const BUYER_SPAN: u64 = 1073741824;
 
 // 1 for a row of the kind asked for, 0 for any other.
 fn of_kind(kind: u32, which: u32) -> u64
@@ -30,18 +41,18 @@ fn of_kind(kind: u32, which: u32) -> u64
 
 // The number by which a row stands in its place.
 fn key_of(buyer: u32, kind: u32, price: u32, row: usize) -> u64
-    requires { ⌜ row < 256 ⌝ }
-    ensures { λ r. ⌜ r ≡ keyOf buyer kind price row ⌝ }
+    requires { ⌜ row < rowSpan ⌝ }
+    ensures { λ r. ⌜ r ≡ dealKey buyer kind price row ⌝ }
 {
     let side = sums::wide(buyer) * 2 + of_kind(kind, Contract::DEMANDED);
-    let level = (side * 1048576 + sums::wide(price)) * 2 + of_kind(kind, Contract::CONDITIONAL);
-    level * 256 + row as u64
+    let level = (side * PRICE_SPAN + sums::wide(price)) * 2 + of_kind(kind, Contract::CONDITIONAL);
+    level * ROW_SPAN + row as u64
 }
 
 // ---- whether the rows can be assigned
 
 fn row_good(agents: usize, k: Contract) -> bool
-    ensures { λ r. ⌜ r ≡ rowGood agents k ⌝ }
+    ensures { λ r. ⌜ r ≡ dealGood agents k ⌝ }
 {
     ((k.buyer as usize) < agents)
         & (((Contract::FIXED <= k.kind) & (k.kind <= Contract::DEMANDED))
@@ -50,8 +61,8 @@ fn row_good(agents: usize, k: Contract) -> bool
 
 // One pass judges each row and takes its key; the first bad row ends it.
 fn read_keys(section: &[u8], agents: usize, keys: &mut [u64]) -> Verdict
-    requires { ⌜ (countIn (now section) ≤ 256) × (countIn (now section) ≤ length (now keys)) ⌝ }
-    ensures { λ r. ⌜ Keyed (rowsVerdict (now (section .entry)) agents) (now (section .entry)) (now (keys .entry)) r (now (keys .exit)) ⌝ }
+    requires { ⌜ (countIn (now section) ≤ mostContracts) × (countIn (now section) ≤ length (now keys)) ⌝ }
+    ensures { λ r. ⌜ Keyed (dealsVerdict (now (section .entry)) agents) (now (section .entry)) (now (keys .entry)) r (now (keys .exit)) ⌝ }
 {
     let n = section.len() / 16;
     let mut i = 0;
@@ -67,7 +78,7 @@ fn read_keys(section: &[u8], agents: usize, keys: &mut [u64]) -> Verdict
 }
 
 fn layout_good(section: &[u8], demands: &[u32]) -> bool
-    ensures { λ r. ⌜ r ≡ layoutGood (now (section .entry)) (now (demands .entry)) ⌝ }
+    ensures { λ r. ⌜ r ≡ sectionFits (now (section .entry)) (now (demands .entry)) ⌝ }
 {
     let n = section.len();
     (n % 16 == 0) & ((n / 16 <= Contract::MOST) & (demands.len() <= Agent::MOST))
@@ -94,7 +105,7 @@ fn or_else(v: Verdict, w: Verdict) -> Verdict
 
 // A bad row is told before a short list.
 fn judge(section: &[u8], demands: &[u32], out: &[u32], keys: &mut [u64]) -> Verdict
-    requires { ⌜ 256 ≤ length (now keys) ⌝ }
+    requires { ⌜ mostContracts ≤ length (now keys) ⌝ }
     ensures { λ r. ⌜ Keyed (assignVerdict (now (section .entry)) (now (demands .entry)) (now (out .entry))) (now (section .entry)) (now (keys .entry)) r (now (keys .exit)) ⌝ }
 {
     if !layout_good(section, demands) {
@@ -108,15 +119,15 @@ fn judge(section: &[u8], demands: &[u32], out: &[u32], keys: &mut [u64]) -> Verd
 // ---- from rows to places and back
 
 fn row_of(k: u64) -> usize
-    ensures { λ r. ⌜ r ≡ rowOf k ⌝ }
+    ensures { λ r. ⌜ r ≡ keyRow k ⌝ }
 {
-    (k % 256) as usize
+    (k % ROW_SPAN) as usize
 }
 
 // The quantities by place.
 fn gather(section: &[u8], keys: &[u64], n: usize, out: &mut [u32])
     requires { ⌜ (n ≤ length (now keys)) × (n ≤ length (now out)) ⌝ }
-    ensures { λ _. ⌜ Filled 0 (now (out .entry)) (now (out .exit)) n (λ u. rowIn (now (section .entry)) (rowOf (at (now (keys .entry)) u)) .quantity) ⌝ }
+    ensures { λ _. ⌜ Filled 0 (now (out .entry)) (now (out .exit)) n (λ u. dealIn (now (section .entry)) (keyRow (at (now (keys .entry)) u)) .quantity) ⌝ }
 {
     let mut p = 0;
     while p < n {
@@ -141,15 +152,15 @@ fn scatter(keys: &[u64], n: usize, amounts: &[u32], out: &mut [u32])
 
 // Rows that nothing is wrong with: put in order by their keys, assigned by place, and put back.
 fn assign_rows(section: &[u8], keys: &mut [u64], demands: &[u32], out: &mut [u32])
-    requires { ⌜ Ready (rowsIn (now section)) (now demands) × (countIn (now section) ≤ length (now out)) ⌝ }
+    requires { ⌜ Ready (dealsIn (now section)) (now demands) × (countIn (now section) ≤ length (now out)) ⌝ }
     requires { ⌜ (countIn (now section) ≤ length (now keys)) × ((j : ℕ) → j < countIn (now section) → at (now keys) j ≡ keyIn (now section) j) ⌝ }
-    ensures { λ _. ⌜ Filled 0 (now (out .entry)) (now (out .exit)) (countIn (now (section .entry))) (hourAmount (rowsIn (now (section .entry))) (now (demands .entry))) ⌝ }
+    ensures { λ _. ⌜ Filled 0 (now (out .entry)) (now (out .exit)) (countIn (now (section .entry))) (hourAmount (dealsIn (now (section .entry))) (now (demands .entry))) ⌝ }
 {
     let n = section.len() / 16;
     order::sort(keys, n);
     // Behind the sort, so that they can lie where earlier scratch lay.
-    let mut placed = [0u32; 256];
-    let mut amounts = [0u32; 256];
+    let mut placed = [0u32; Contract::MOST];
+    let mut amounts = [0u32; Contract::MOST];
     gather(section, keys, n, &mut placed);
     walk::walk(keys, n, &placed, demands, &mut amounts);
     scatter(keys, n, &amounts, out);
@@ -159,7 +170,7 @@ fn assign_rows(section: &[u8], keys: &mut [u64], demands: &[u32], out: &mut [u32
 pub fn assign(section: &[u8], demands: &[u32], out: &mut [u32]) -> Verdict
     ensures { λ r. ⌜ Assigned (now (section .entry)) (now (demands .entry)) (now (out .entry)) r (now (out .exit)) ⌝ }
 {
-    let mut keys = [0u64; 256];
+    let mut keys = [0u64; Contract::MOST];
     let v = judge(section, demands, out, &mut keys);
     let Verdict::Fine = v else {
         return v;

@@ -6,8 +6,9 @@ ghost use lib.Dec.{ltb, eqb};
 ghost use lib.ListN.{length};
 ghost use Rattle.sums.specs.Sums.{pick};
 ghost use Rattle.sums.specs.Lists.{at, total, Filled};
+ghost use Rattle.rows.specs.Limits.{mostContracts};
 ghost use Rattle.share.specs.Share.{shareOf};
-ghost use Rattle.contracts.specs.Keys.{buyerOf, isDemanded, isFixed};
+ghost use Rattle.contracts.specs.Keys.{keyBuyer, isDemanded, isFixed};
 ghost use Rattle.contracts.specs.Walk.{Stretch, groupAmount, Served, WalkFrom, Walked};
 
 // What is left of a retailer's demand.
@@ -29,21 +30,21 @@ impl Tally {
 // ---- what a key says
 
 fn buyer_of(k: u64) -> usize
-    ensures { λ r. ⌜ r ≡ buyerOf k ⌝ }
+    ensures { λ r. ⌜ r ≡ keyBuyer k ⌝ }
 {
-    (k / 1073741824) as usize
+    (k / crate::BUYER_SPAN) as usize
 }
 
 fn demanded(k: u64) -> bool
     ensures { λ r. ⌜ r ≡ isDemanded k ⌝ }
 {
-    k / 536870912 % 2 == 1
+    k / crate::SIDE_SPAN % 2 == 1
 }
 
 fn fixed(k: u64) -> bool
     ensures { λ r. ⌜ r ≡ isFixed k ⌝ }
 {
-    k / 256 % 2 == 0
+    k / crate::ROW_SPAN % 2 == 0
 }
 
 // ---- one stretch
@@ -56,7 +57,7 @@ fn firm(in_full: bool, left: u32, q: u32) -> u32
 }
 
 fn total_of(quantities: &[u32]) -> u64
-    requires { ⌜ length (now quantities) ≤ 256 ⌝ }
+    requires { ⌜ length (now quantities) ≤ mostContracts ⌝ }
     ensures { λ r. ⌜ r ≡ total (now (quantities .entry)) ⌝ }
 {
     let mut all: u64 = 0;
@@ -79,9 +80,10 @@ fn copy(from: &[u32], out: &mut [u32])
     }
 }
 
-// A group that doesn't fit: one row gets what is left, several share it. There are at most 256, and room for each, so that sharing never refuses.
+// A group that doesn't fit: one row gets what is left, several share it. There are no more than a sheet may have, and room for
+// each, so that sharing never refuses.
 fn share_left(left: u32, quantities: &[u32], amounts: &mut [u32])
-    requires { ⌜ (length (now quantities) ≤ 256) × (length (now quantities) ≡ length (now amounts)) × (left < total (now quantities)) ⌝ }
+    requires { ⌜ (length (now quantities) ≤ mostContracts) × (length (now quantities) ≡ length (now amounts)) × (left < total (now quantities)) ⌝ }
     ensures { λ _. ⌜ Filled 0 (now (amounts .entry)) (now (amounts .exit)) (length (now (quantities .entry))) (shareOf left (now (quantities .entry))) ⌝ }
 {
     if quantities.len() == 1 {
@@ -93,7 +95,7 @@ fn share_left(left: u32, quantities: &[u32], amounts: &mut [u32])
 
 // Kind 3 at one price: in full where all of it fits, else the demand left is shared.
 fn serve_group(tally: Tally, quantities: &[u32], amounts: &mut [u32]) -> Tally
-    requires { ⌜ (length (now quantities) ≤ 256) × (length (now quantities) ≡ length (now amounts)) ⌝ }
+    requires { ⌜ (length (now quantities) ≤ mostContracts) × (length (now quantities) ≡ length (now amounts)) ⌝ }
     ensures { λ r. ⌜ (r .left ≡ tally .left - total (now (quantities .entry))) × Filled 0 (now (amounts .entry)) (now (amounts .exit)) (length (now (quantities .entry))) (groupAmount (tally .left) (now (quantities .entry))) ⌝ }
 {
     let asked = total_of(quantities);
@@ -107,7 +109,7 @@ fn serve_group(tally: Tally, quantities: &[u32], amounts: &mut [u32]) -> Tally
 
 // The stretch whose first key is k.
 fn serve(k: u64, tally: Tally, quantities: &[u32], amounts: &mut [u32]) -> Tally
-    requires { ⌜ (length (now quantities) ≤ 256) × (length (now quantities) ≡ length (now amounts)) × (isDemanded k ≡ false → length (now quantities) ≡ 1) ⌝ }
+    requires { ⌜ (length (now quantities) ≤ mostContracts) × (length (now quantities) ≡ length (now amounts)) × (isDemanded k ≡ false → length (now quantities) ≡ 1) ⌝ }
     ensures { λ r. ⌜ Served k (tally .left) (now (quantities .entry)) (now (amounts .entry)) (r .left) (now (amounts .exit)) ⌝ }
 {
     if demanded(k) {
@@ -135,10 +137,10 @@ fn group_end(keys: &[u64], n: usize, p: usize) -> usize
     requires { ⌜ (n ≤ length (now keys)) × (p < n) × (isDemanded (at (now keys) p) ≡ true) ⌝ }
     ensures { λ r. ⌜ Stretch (now (keys .entry)) n p r ⌝ }
 {
-    let group = keys[p] / 256;
+    let group = keys[p] / crate::ROW_SPAN;
     let mut e = p + 1;
     while e < n {
-        if keys[e] / 256 != group {
+        if keys[e] / crate::ROW_SPAN != group {
             return e;
         }
         e += 1;
@@ -159,7 +161,7 @@ fn stretch_end(keys: &[u64], n: usize, p: usize) -> usize
 
 // Assigns the first n places, stretch by stretch.
 pub(crate) fn walk(keys: &[u64], n: usize, quantities: &[u32], demands: &[u32], amounts: &mut [u32])
-    requires { ⌜ (n ≤ 256) × (n ≤ length (now keys)) × (n ≤ length (now quantities)) × (n ≤ length (now amounts)) × WalkFrom (now keys) n (now quantities) (now demands) ⌝ }
+    requires { ⌜ (n ≤ mostContracts) × (n ≤ length (now keys)) × (n ≤ length (now quantities)) × (n ≤ length (now amounts)) × WalkFrom (now keys) n (now quantities) (now demands) ⌝ }
     ensures { λ _. ⌜ Walked (now (keys .entry)) (now (quantities .entry)) (now (demands .entry)) n (now (amounts .exit)) ⌝ }
 {
     if n == 0 {

@@ -3,7 +3,7 @@ use Prim.Native.Nat.{ℕ, _+_, _-_, _*_, _≤_, _<_}
 use native.Mathlib.Omega.{arith}
 use native.Mathlib.Nat.{mul-le-mul}
 use mathlib.Core.Bool.{Bool, true, false, not}
-use Rattle.rows.specs.Limits.{mostEnergy, mostFactor, mostPrice}
+use Rattle.rows.specs.Limits.{mostFactor, mostReading, mostOffer, mostAvailable}
 use Rattle.sums.specs.Sums.{pick, keyed}
 use Rattle.sums.specs.Lists.{at}
 use Rattle.sums.proofs.Sums.{sum-le, sum-most}
@@ -17,10 +17,10 @@ use Rattle.hour.specs.Balance.{referred, imported, exported, consumption
 use Rattle.hour.specs.Lines.{scheduled, bolsaPrice}
 
 -- a reading within its limit, at a factor within its limit
-pub referred-le : (x f : ℕ) → x ≤ mostEnergy → f ≤ mostFactor → referred x f ≤ 6000000
+pub referred-le : (x f : ℕ) → x ≤ mostReading → f ≤ mostFactor → referred x f ≤ 6000000
 unfolding referred
 referred-le x f h k =
-    let p : x * (10000 + f) ≤ 4000000 * 15000 = mul-le-mul {n₂ = 4000000} {m₂ = 15000} h (omega arith) in omega arith
+    let p : x * (10000 + f) ≤ mostReading * (10000 + mostFactor) = mul-le-mul {n₂ = mostReading} {m₂ = 10000 + mostFactor} h (omega arith) in omega arith
 
 module _ (s : Sheet) where
   pub consumption-le : (a : ℕ) → consumption s a ≤ imported s a
@@ -87,7 +87,7 @@ module _ (s : Sheet) where
     consumed-most = omega (arith, consumed-le, leaving-le)
 
     -- ---- plants
-    pub scheduled-le : (i : ℕ) → i < plants s → scheduled s i ≤ mostEnergy
+    pub scheduled-le : (i : ℕ) → i < plants s → scheduled s i ≤ mostAvailable
     unfolding scheduled
     scheduled-le i l =
         omega (
@@ -98,9 +98,9 @@ module _ (s : Sheet) where
 
     pub made-le : (a : ℕ) → keyed (at (s .holders)) (scheduled s) (plants s) a ≤ 256000000
     made-le a =
-        omega (arith, keyed-most (at (s .holders)) (scheduled s) (plants s) a mostEnergy scheduled-le, ok .few .plants)
+        omega (arith, keyed-most (at (s .holders)) (scheduled s) (plants s) a mostAvailable scheduled-le, ok .few .plants)
 
-    pub price-le : bolsaPrice s ≤ mostPrice
+    pub price-le : bolsaPrice s ≤ mostOffer
     unfolding bolsaPrice
     price-le =
-        price-most (at (s .offers)) (at (s .flags)) (scheduled s) (plants s) mostPrice (λ i l. ok .plant i l .offer)
+        price-most (at (s .offers)) (at (s .flags)) (scheduled s) (plants s) mostOffer (λ i l. ok .plant i l .offer)

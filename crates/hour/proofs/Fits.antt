@@ -2,7 +2,7 @@
 use Prim.Native.Nat.{ℕ, _≤_, _<_}
 use native.Mathlib.Omega.{arith}
 use mathlib.Core.Bool.{Bool, true, false, cond}
-use Rattle.rows.specs.Limits.{mostEnergy}
+use Rattle.rows.specs.Limits.{mostQuantity}
 use Rattle.sums.specs.Sums.{keyed}
 use Rattle.sums.specs.Lists.{at}
 use Rattle.sums.proofs.Keyed.{keyed-most}
@@ -21,12 +21,12 @@ cond-le false x y m h k = k
 
 module _ (s : Sheet) (ok : Sound s) where
   -- ---- contracts
-  pub amount-le : (j : ℕ) → j < contracts s → amount s j ≤ mostEnergy
+  pub amount-le : (j : ℕ) → j < contracts s → amount s j ≤ mostQuantity
   unfolding amount
   amount-le j l = omega (arith, hour-le (s .deals) (demands s) j (omega (arith, ok .whole .buyers)), ok .contract j l .quantity)
 
   pub keyed-amount-le : (key : ℕ → ℕ) (a : ℕ) → keyed key (amount s) (contracts s) a ≤ 1024000000
-  keyed-amount-le key a = omega (arith, keyed-most key (amount s) (contracts s) a mostEnergy amount-le, ok .few .contracts)
+  keyed-amount-le key a = omega (arith, keyed-most key (amount s) (contracts s) a mostQuantity amount-le, ok .few .contracts)
 
   pub contracted-le : (a : ℕ) → contracted s a ≤ 1024000000
   unfolding contracted

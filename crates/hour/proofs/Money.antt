@@ -8,7 +8,7 @@ use borrow.Author.Tests.{lt-ltb, le-ltb}
 use lib.IntN.{ℤ, pos, negsuc, negℤ, _+ℤ_, _-ℤ_, _*ℤ_, +ℤ-assoc, +ℤ-comm, negℤ-+ℤ}
 use mir.Syntax.{w64}
 use mir.Val.{SFits}
-use Rattle.rows.specs.Limits.{mostPrice}
+use Rattle.rows.specs.Limits.{mostOffer}
 use Rattle.sums.specs.Sums.{sum}
 use Rattle.hour.specs.Signed.{signedSum}
 use Rattle.hour.specs.Lines.{moneyOf}
@@ -51,10 +51,10 @@ unfolding moneyOf
 money-neg a b p h = rw (diff-neg a b h) (neg-times (b - a) p)
 
 -- the product fits
-pub money-fits : (a b p : ℕ) → a < 2 ^ 32 → b < 2 ^ 32 → p ≤ mostPrice → SFits w64 (moneyOf a b p)
+pub money-fits : (a b p : ℕ) → a < 2 ^ 32 → b < 2 ^ 32 → p ≤ mostOffer → SFits w64 (moneyOf a b p)
 money-fits a b p h k l = go (decLt a b)
   where
-    most : (x : ℕ) → x ≤ 4294967296 → x * p ≤ 4294967296 * 1000000
+    most : (x : ℕ) → x ≤ 4294967296 → x * p ≤ 4294967296 * mostOffer
     most x m = mul-le-mul m l
 
     go : Dec (a < b) → SFits w64 (moneyOf a b p)

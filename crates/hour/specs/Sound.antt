@@ -4,7 +4,7 @@ use mathlib.Core.Bool.{true, false}
 use mathlib.Core.Path.{_≡_}
 use lib.ListN.{length}
 use Rattle.sums.specs.Lists.{at}
-use Rattle.rows.specs.Limits.{mostAgents, mostBoundaries, mostPlants, mostContracts, mostEnergy, mostPrice, mostFactor}
+use Rattle.rows.specs.Limits.{mostAgents, mostBoundaries, mostPlants, mostContracts, mostFactor, mostReading, mostOffer, mostAvailable, mostPrice, mostQuantity}
 use Rattle.hour.specs.Sheet.{Sheet, agents, boundaries, plants, contracts, retails}
 
 -- the counts are within their limits
@@ -30,16 +30,16 @@ pub record Whole (s : Sheet) : Type 0 where
 pub record BoundarySound (s : Sheet) (j : ℕ) : Type 0 where
   pub there : at (s .owners) j < agents s
   pub factor : at (s .factors) j ≤ mostFactor
-  pub import : at (s .imports) j ≤ mostEnergy
-  pub export : at (s .exports) j ≤ mostEnergy
+  pub import : at (s .imports) j ≤ mostReading
+  pub export : at (s .exports) j ≤ mostReading
   pub unreferred : retails s (at (s .owners) j) ≡ false → at (s .factors) j ≡ 0
 
 pub record PlantSound (s : Sheet) (i : ℕ) : Type 0 where
   pub there : at (s .holders) i < agents s
   pub generator : retails s (at (s .holders) i) ≡ false
   pub flag : at (s .flags) i ≤ 1
-  pub offer : at (s .offers) i ≤ mostPrice
-  pub available : at (s .available) i ≤ mostEnergy
+  pub offer : at (s .offers) i ≤ mostOffer
+  pub available : at (s .available) i ≤ mostAvailable
 
 pub record ContractSound (s : Sheet) (j : ℕ) : Type 0 where
   pub sellerThere : at (s .sellers) j < agents s
@@ -49,7 +49,7 @@ pub record ContractSound (s : Sheet) (j : ℕ) : Type 0 where
   pub least : 1 ≤ at (s .deals .kinds) j
   pub most : at (s .deals .kinds) j ≤ 3
   pub price : at (s .deals .prices) j ≤ mostPrice
-  pub quantity : at (s .deals .quantities) j ≤ mostEnergy
+  pub quantity : at (s .deals .quantities) j ≤ mostQuantity
 
 pub record Sound (s : Sheet) : Type 0 where
   pub few : Few s

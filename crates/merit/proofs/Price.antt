@@ -6,7 +6,7 @@ use mathlib.Core.Logic.{_⊎_, inl, inr}
 use mathlib.Core.Path.{_≡_}
 use lib.Dec.{ltb, eqb}
 use Rattle.sums.specs.Sums.{peak, pick}
-use Rattle.sums.proofs.Sums.{peak-eq, peak-ge, peak-hit, peak-most}
+use Rattle.sums.proofs.Sums.{peak-ge, peak-hit, peak-most}
 use Rattle.sums.proofs.Picks.{pick-le, pick-lt, pick-ge, pick-eq, pick-ne}
 use Rattle.merit.specs.Merit.{hourPrice}
 
@@ -60,9 +60,3 @@ module _ (p t q : ℕ → ℕ) where
         go (yes h) =
             let (k, l, e) = peak-hit n (bid p t q) h in
             inr (of k l e h (ℕ-discrete (t k) 0) (decLt 0 (q k)))
-
--- the price rests on nothing but the first n plants
-pub price-eq : (p p′ t t′ q q′ : ℕ → ℕ) (n : ℕ) → ((i : ℕ) → i < n → p i ≡ p′ i) → ((i : ℕ) → i < n → t i ≡ t′ i) → ((i : ℕ) → i < n → q i ≡ q′ i)
-    → hourPrice p t q n ≡ hourPrice p′ t′ q′ n
-unfolding hourPrice
-price-eq p p′ t t′ q q′ n f g h = peak-eq n (bid p t q) (bid p′ t′ q′) (λ i l. rw (f i l, g i l, h i l))

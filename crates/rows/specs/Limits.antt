@@ -35,6 +35,3 @@ mostPrice = 1000000
 
 abbrev pub mostQuantity : ℕ
 mostQuantity = 4000000
-
-abbrev pub mostEnergy : ℕ
-mostEnergy = 4000000

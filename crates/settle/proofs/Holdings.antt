@@ -12,12 +12,12 @@ use Rattle.sums.proofs.Lists.{length-listTo, listTo-eq, zeros-at}
 use Rattle.sums.proofs.Fill.{filled-count, filled-by}
 use Rattle.refusals.specs.Refusals.{cells}
 use Rattle.refusals.specs.declared.Verdict.{Verdict}
-use Rattle.rows.specs.Limits.{mostAgents, mostEnergy}
+use Rattle.rows.specs.Limits.{mostAgents, mostQuantity}
 use Rattle.rows.specs.Rows.{contractOf}
 use Rattle.rows.specs.declared.Contract.{Contract}
 use Rattle.rows.proofs.Stretch.{stretch, stretch-length, stretch-row}
 use Rattle.deals.specs.Hour.{Rows, hourAmount}
-use Rattle.contracts.specs.Assign.{countIn, rowIn, rowsIn, assignVerdict, Assigned}
+use Rattle.contracts.specs.Assign.{countIn, dealIn, dealsIn, assignVerdict, Assigned}
 use Rattle.contracts.proofs.Verdicts.{Laid, Row, assign-fine}
 use Rattle.sheet.specs.Reading.{contractStart, readOf}
 use Rattle.sheet.specs.Asking.{contractAt}
@@ -57,18 +57,18 @@ module _ (s : List ℕ) (c : Counts) (e : readOf s ≡ Reading.Accepted c) (sec 
   count : countIn sec ≡ c .contracts
   count = omega (arith, long)
 
-  row : (j : ℕ) → j < c .contracts → rowIn sec j ≡ contractAt s c j
+  row : (j : ℕ) → j < c .contracts → dealIn sec j ≡ contractAt s c j
   row j l =
-      ap (λ (b : List ℕ). rowIn b j) is ∙ ap contractOf (stretch-row s (contractStart c) (c .contracts) within j l)
+      ap (λ (b : List ℕ). dealIn b j) is ∙ ap contractOf (stretch-row s (contractStart c) (c .contracts) within j l)
 
   column : (f : Contract → ℕ)
-      → listTo (λ j. f (rowIn sec j)) (countIn sec) ≡ listTo (λ j. f (contractAt s c j)) (c .contracts)
+      → listTo (λ j. f (dealIn sec j)) (countIn sec) ≡ listTo (λ j. f (contractAt s c j)) (c .contracts)
   column f =
-      ap (listTo (λ j. f (rowIn sec j))) count
-      ∙ listTo-eq (λ j. f (rowIn sec j)) (λ j. f (contractAt s c j)) (c .contracts) (λ j l. ap f (row j l))
+      ap (listTo (λ j. f (dealIn sec j))) count
+      ∙ listTo-eq (λ j. f (dealIn sec j)) (λ j. f (contractAt s c j)) (c .contracts) (λ j l. ap f (row j l))
 
-  deals-are : rowsIn sec ≡ columnsOf s c .deals
-  unfolding rowsIn columnsOf
+  deals-are : dealsIn sec ≡ columnsOf s c .deals
+  unfolding dealsIn columnsOf
   deals-are = rw (column (λ k. k .buyer), column (λ k. k .kind), column (λ k. k .price), column (λ k. k .quantity))
 
   -- ---- none of them is refused
@@ -81,7 +81,7 @@ module _ (s : List ℕ) (c : Counts) (e : readOf s ≡ Reading.Accepted c) (sec 
         agents = omega (arith, demands-long h, agents-long s c, f .agents);
       }
 
-  good : (j : ℕ) → j < countIn sec → Row (length (demands h)) (rowIn sec j)
+  good : (j : ℕ) → j < countIn sec → Row (length (demands h)) (dealIn sec j)
   good j m =
       let l : j < c .contracts = omega (arith, count) in
       let r = accepted-contract s c e j l in
@@ -104,7 +104,7 @@ module _ (s : List ℕ) (c : Counts) (e : readOf s ≡ Reading.Accepted c) (sec 
         let x : Assigned sec (demands h) before v after = rw d at w in
         let f : assignVerdict sec (demands h) before
         ≡ Verdict.Fine = assign-fine sec (demands h) before laid good (omega (arith, count)) in
-        filled-by 0 _ _ _ (hourAmount (rowsIn sec) (demands h)) (hourAmount (h .deals) (demands h))
+        filled-by 0 _ _ _ (hourAmount (dealsIn sec) (demands h)) (hourAmount (h .deals) (demands h))
         (λ j m. ap (λ (k : Rows). hourAmount k (demands h) j) deals-are)
         (filled-count 0 _ _ _ _ _ (ap (λ (u : Verdict). cells u (countIn sec)) f ∙ count) (x .result))
 
@@ -140,7 +140,7 @@ module _ (s : List ℕ) (c : Counts) (e : readOf s ≡ Reading.Accepted c) (sec 
 
       -- ---- bought and sold, as the columns have them
       bought : (a : ℕ)
-          → keyed (λ j. rowIn sec j .buyer) (at after) (countIn sec) a
+          → keyed (λ j. dealIn sec j .buyer) (at after) (countIn sec) a
           ≡ keyed (at (h .deals .buyers)) (amount h) (contracts h) a
       bought a =
           keyed-eq _ _ _ _ (countIn sec) a
@@ -149,7 +149,7 @@ module _ (s : List ℕ) (c : Counts) (e : readOf s ≡ Reading.Accepted c) (sec 
           ∙ ap (λ (n : ℕ). keyed (at (h .deals .buyers)) (amount h) n a) (count ∙ sym (contracts-long s c))
 
       sold : (a : ℕ)
-          → keyed (λ j. rowIn sec j .seller) (at after) (countIn sec) a
+          → keyed (λ j. dealIn sec j .seller) (at after) (countIn sec) a
           ≡ keyed (at (h .sellers)) (amount h) (contracts h) a
       sold a =
           keyed-eq _ _ _ _ (countIn sec) a
@@ -180,8 +180,8 @@ module _ (s : List ℕ) (c : Counts) (e : readOf s ≡ Reading.Accepted c) (sec 
           }
         where
           both : (a : ℕ)
-              → keyed (λ j. rowIn sec j .buyer) (at after) (countIn sec) a
-              + keyed (λ j. rowIn sec j .seller) (at after) (countIn sec) a
+              → keyed (λ j. dealIn sec j .buyer) (at after) (countIn sec) a
+              + keyed (λ j. dealIn sec j .seller) (at after) (countIn sec) a
               ≡ keyed (at (h .deals .buyers)) (amount h) (contracts h) a
               + keyed (at (h .sellers)) (amount h) (contracts h) a
           both a = omega (arith, bought a, sold a)
@@ -194,12 +194,12 @@ module _ (s : List ℕ) (c : Counts) (e : readOf s ≡ Reading.Accepted c) (sec 
 module _ (section amounts : List ℕ) where
   -- what the first n rows come to
   abbrev pub boughtTo : ℕ → ℕ → ℕ
-  boughtTo n a = keyed (λ j. rowIn section j .buyer) (at amounts) n a
+  boughtTo n a = keyed (λ j. dealIn section j .buyer) (at amounts) n a
 
   abbrev pub soldTo : ℕ → ℕ → ℕ
-  soldTo n a = keyed (λ j. rowIn section j .seller) (at amounts) n a
+  soldTo n a = keyed (λ j. dealIn section j .seller) (at amounts) n a
 
-  module _ (p : Holding section amounts) (j : ℕ) (l : j < countIn section) (k : Contract) (is : k ≡ rowIn section j)
+  module _ (p : Holding section amounts) (j : ℕ) (l : j < countIn section) (k : Contract) (is : k ≡ dealIn section j)
     where
       pub buyer-there : k .buyer < mostAgents
       buyer-there = omega (arith, ap (λ (x : Contract). x .buyer) is, p .buyer j l)
@@ -215,16 +215,16 @@ module _ (section amounts : List ℕ) where
 
         half : (a : ℕ) → a < mostAgents → at once a ≡ boughtTo (j + 1) a + soldTo j a
         half a m =
-            keyed-beside (λ i. rowIn section i .buyer) (at amounts) j held (k .buyer) (at amounts j)
+            keyed-beside (λ i. dealIn section i .buyer) (at amounts) j held (k .buyer) (at amounts j)
             (ap (λ (x : Contract). x .buyer) is) refl (omega (arith, buyer-there)) a (soldTo j a) (before a m)
 
-        bought-few : (n a : ℕ) → n ≤ countIn section → boughtTo n a ≤ mostEnergy * n
+        bought-few : (n a : ℕ) → n ≤ countIn section → boughtTo n a ≤ mostQuantity * n
         bought-few n a m =
-            keyed-most (λ i. rowIn section i .buyer) (at amounts) n a mostEnergy (λ i h. p .amount i (omega arith))
+            keyed-most (λ i. dealIn section i .buyer) (at amounts) n a mostQuantity (λ i h. p .amount i (omega arith))
 
-        sold-few : (n a : ℕ) → n ≤ countIn section → soldTo n a ≤ mostEnergy * n
+        sold-few : (n a : ℕ) → n ≤ countIn section → soldTo n a ≤ mostQuantity * n
         sold-few n a m =
-            keyed-most (λ i. rowIn section i .seller) (at amounts) n a mostEnergy (λ i h. p .amount i (omega arith))
+            keyed-most (λ i. dealIn section i .seller) (at amounts) n a mostQuantity (λ i h. p .amount i (omega arith))
 
         pub first-fits : at held (k .buyer) + at amounts j ≤ 4294967295
         first-fits =
@@ -255,7 +255,7 @@ module _ (section amounts : List ℕ) where
         both-added a m =
             omega (
               arith,
-              keyed-beside (λ i. rowIn section i .seller) (at amounts) j once (k .seller) (at amounts j)
+              keyed-beside (λ i. dealIn section i .seller) (at amounts) j once (k .seller) (at amounts j)
                   (ap (λ (x : Contract). x .seller) is) refl
                   (omega (arith, seller-there, length-set held (k .buyer) (at held (k .buyer) + at amounts j))) a
                   (boughtTo (j + 1) a) (omega (arith, half a m)),

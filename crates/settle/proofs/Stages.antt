@@ -14,7 +14,7 @@ use Rattle.sums.proofs.Lists.{zeros-at}
 use Rattle.sums.proofs.Keyed.{keyed-eq}
 use Rattle.sums.proofs.Fill.{filled-count, filled-by, front-at, front-long}
 use Rattle.refusals.specs.declared.Verdict.{Verdict}
-use Rattle.rows.specs.Limits.{mostAgents, mostEnergy}
+use Rattle.rows.specs.Limits.{mostAgents, mostAvailable}
 use Rattle.merit.specs.Merit.{hourPrice}
 use Rattle.dispatch.specs.Dispatch.{Dispatched, priceOf}
 use Rattle.dispatch.proofs.Dispatched.{dispatched-plain, price-plain}
@@ -94,8 +94,8 @@ module _ (h : Sheet) (ok : Sound h) where
   pub demand-small : (d room : ℕ) (os : List ℕ) → Covered h d room os → (a : ℕ) → a < mostAgents → at os a ≤ 3000000000
   demand-small d room os c a m = go (decLt a (agents h))
     where
-      most : sum (plants h) (at (h .available)) ≤ mostEnergy * plants h
-      most = sum-most (plants h) mostEnergy (at (h .available)) (λ i l. ok .plant i l .available)
+      most : sum (plants h) (at (h .available)) ≤ mostAvailable * plants h
+      most = sum-most (plants h) mostAvailable (at (h .available)) (λ i l. ok .plant i l .available)
 
       go : Dec (a < agents h) → at os a ≤ 3000000000
       go (yes l) = omega (arith, c .commercial .done a l, part-le h a l, c .enough, most, ok .few .plants)

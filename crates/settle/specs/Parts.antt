@@ -11,10 +11,10 @@ use Rattle.sums.specs.Lists.{at, Filled}
 use Rattle.refusals.specs.Refusals.{uncovered, noRoom, refusedUnless, firstOf}
 use Rattle.refusals.specs.declared.Refusal.{Refusal}
 use Rattle.refusals.specs.declared.Verdict.{Verdict}
-use Rattle.rows.specs.Limits.{mostAgents, mostContracts, mostEnergy}
+use Rattle.rows.specs.Limits.{mostAgents, mostPlants, mostContracts, mostAvailable, mostQuantity}
 use Rattle.rows.specs.Rows.{isRetailer}
 use Rattle.balance.specs.Balances.{zeros}
-use Rattle.contracts.specs.Assign.{countIn, rowIn}
+use Rattle.contracts.specs.Assign.{countIn, dealIn}
 use Rattle.hour.specs.Sheet.{Sheet, agents, plants, contracts}
 use Rattle.hour.specs.Balance.{commercial, demands, hourDemand}
 use Rattle.hour.specs.Lines.{scheduled, bolsaPrice, amount, own, contracted, moneyOf, cellsPerAgent, cellOf}
@@ -22,10 +22,10 @@ use Rattle.hour.specs.declared.Summary.{Summary}
 
 -- ---- sums by agent, added to what stands in their cells: nothing overflows
 pub record Countable (keys values before : List ℕ) : Type 0 where
-  pub few : length keys ≤ mostContracts
+  pub few : length keys ≤ mostPlants
   pub long : length keys ≤ length values
   pub agent : (j : ℕ) → j < length keys → at keys j < mostAgents
-  pub value : (j : ℕ) → j < length keys → at values j ≤ mostEnergy
+  pub value : (j : ℕ) → j < length keys → at values j ≤ mostAvailable
   pub cells : length before ≡ mostAgents
   pub small : (a : ℕ) → a < mostAgents → at before a ≤ 3000000000
 
@@ -86,15 +86,15 @@ pub record Generates (h : Sheet) (x : ℕ) (os before after : List ℕ) : Type 0
 pub record Holding (section amounts : List ℕ) : Type 0 where
   pub few : countIn section ≤ mostContracts
   pub long : countIn section ≤ length amounts
-  pub buyer : (j : ℕ) → j < countIn section → rowIn section j .buyer < mostAgents
-  pub seller : (j : ℕ) → j < countIn section → rowIn section j .seller < mostAgents
-  pub amount : (j : ℕ) → j < countIn section → at amounts j ≤ mostEnergy
+  pub buyer : (j : ℕ) → j < countIn section → dealIn section j .buyer < mostAgents
+  pub seller : (j : ℕ) → j < countIn section → dealIn section j .seller < mostAgents
+  pub amount : (j : ℕ) → j < countIn section → at amounts j ≤ mostQuantity
 
 -- what each agent bought and what it sold under them, in one sum
 pub record HeldByAgent (section amounts sums : List ℕ) : Type 0 where
   pub each : (a : ℕ) → a < mostAgents
-      → at sums a ≡ keyed (λ j. rowIn section j .buyer) (at amounts) (countIn section) a
-      + keyed (λ j. rowIn section j .seller) (at amounts) (countIn section) a
+      → at sums a ≡ keyed (λ j. dealIn section j .buyer) (at amounts) (countIn section) a
+      + keyed (λ j. dealIn section j .seller) (at amounts) (countIn section) a
   pub long : length sums ≡ mostAgents
 
 -- the agents' commercial demands, and a cell for each contract

@@ -43,7 +43,7 @@ fn has_room(c: Counts, figures: usize, money: usize, schedule: usize, amounts: u
     requires { ⌜ c .agents ≤ mostAgents ⌝ }
     ensures { λ r. ⌜ r ≡ roomy (c .agents) (c .plants) (c .contracts) figures money schedule amounts ⌝ }
 {
-    (hour::CELLS_PER_AGENT * c.agents <= figures)
+    (Agent::CELLS * c.agents <= figures)
         & (c.agents <= money)
         & (c.plants <= schedule)
         & (c.contracts <= amounts)

@@ -1,12 +1,11 @@
 // The agent's line: its figures and its money.
-use hour::CELLS_PER_AGENT;
 use rows::Agent;
 ghost use mathlib.Core.Path.{_≡_};
 ghost use Prim.Native.Nat.{ℕ, _+_, _-_, _*_, _/_, _%_, _≤_, _<_};
 ghost use lib.IntN.{ℤ, pos};
 ghost use lib.ListN.{length};
 ghost use Rattle.sums.specs.Lists.{at, Filled};
-ghost use Rattle.rows.specs.Limits.{mostAgents, mostPrice};
+ghost use Rattle.rows.specs.Limits.{mostAgents, mostOffer};
 ghost use Rattle.hour.specs.Lines.{moneyOf, cellsPerAgent};
 ghost use Rattle.settle.specs.Parts.{buys, sells, lineSet, lineCell, lineMoney};
 
@@ -35,7 +34,7 @@ fn sold(kind: u32, own: u32, contracted: u32) -> u32
 
 // The money of one agent, in whole centavos.
 fn owed(sold: u32, bought: u32, price: u32) -> i64
-    requires { ⌜ price ≤ mostPrice ⌝ }
+    requires { ⌜ price ≤ mostOffer ⌝ }
     ensures { λ r. ⌜ r ≡ moneyOf sold bought price ⌝ }
 {
     (sold as i64 - bought as i64) * price as i64
@@ -75,7 +74,7 @@ pub(crate) fn write_lines<'a>(
     figures: &mut [u32],
     money: &mut [i64],
 )
-    requires { ⌜ (n ≤ mostAgents) × (cellsPerAgent * n ≤ length (now figures)) × (n ≤ length (now money)) × (price ≤ mostPrice) ⌝ }
+    requires { ⌜ (n ≤ mostAgents) × (cellsPerAgent * n ≤ length (now figures)) × (n ≤ length (now money)) × (price ≤ mostOffer) ⌝ }
     requires { ⌜ ((a : ℕ) → a < n → at (now contracted) a - at (now own) a + at (now imports) a ≤ 4294967295) ⌝ }
     ensures { λ _. ⌜ Filled 0 (now (figures .entry)) (now (figures .exit)) (cellsPerAgent * n) (lineCell (now (kinds .entry)) (now (shares .entry)) (now (own .entry)) (now (imports .entry)) (now (contracted .entry))) ⌝ }
     ensures { λ _. ⌜ Filled (pos 0) (now (money .entry)) (now (money .exit)) n (lineMoney (now (kinds .entry)) (now (own .entry)) (now (imports .entry)) (now (contracted .entry)) price) ⌝ }
@@ -85,7 +84,7 @@ pub(crate) fn write_lines<'a>(
         let buys = bought(kinds[a], own[a], imports[a], contracted[a]);
         let sells = sold(kinds[a], own[a], contracted[a]);
         write_line(
-            CELLS_PER_AGENT * a,
+            Agent::CELLS * a,
             shares[a],
             own[a],
             imports[a],

@@ -17,7 +17,8 @@ loop-holds : tie.Need-loop-holds Inv-loop μ-loop
 loop-holds c = (omega arith, filled-none 0 _ _)
 
 add-out : tie.Need-add-out Inv-loop μ-loop
-add-out c = omega (arith, (c .before .before .before .before) .pre .1 ((c .before .before .before) .loop .a) (omega arith))
+add-out c =
+    omega (arith, (c .before .before .before .before) .pre .1 ((c .before .before .before) .loop .a) (omega arith))
 
 mul-out-3 : tie.Need-mul-out-3 Inv-loop μ-loop
 mul-out-3 c = omega (arith, (c .before .before .before) .loop .inv .1 .long)
@@ -34,9 +35,12 @@ same-length : tie.Need-same-length Inv-loop μ-loop
 same-length c = (c .before) .loop .inv .1 .long
 
 returns : tie.Need-returns Inv-loop μ-loop
-returns c = let e : (c .before) .loop .a ≡ (c .before .before) .args .n = omega arith in rw e at ((c .before) .loop .inv .1)
+returns c =
+    let e : (c .before) .loop .a ≡ (c .before .before) .args .n = omega arith in rw e at ((c .before) .loop .inv .1)
 
 pub added-spec : {M : Type 1} → statement M
 added-spec =
     tie.close
-    (tie.spec Inv-loop μ-loop loop-holds (λ c. search needs) (λ c. search needs) (λ c. search needs) (λ c. search needs) add-out mul-out-3 slice-write-out (λ c. search needs) (λ c. search needs) loop-again same-length returns)
+    (tie.spec Inv-loop μ-loop loop-holds (λ c. search needs) (λ c. search needs) (λ c. search needs)
+    (λ c. search needs) add-out mul-out-3 slice-write-out (λ c. search needs) (λ c. search needs) loop-again
+    same-length returns)

@@ -12,7 +12,8 @@ use Rattle.balance.proofs.first_over.Statement.{statement}
 use Rattle.balance.proofs.first_over.Tie as tie
 
 abbrev Inv-loop : tie.InvT-loop
-Inv-loop kinds imports exports n a₀ a = (a ≤ n) × ((k : ℕ) → k < a → (isRetailer (at kinds k) && ltb (at imports k) (at exports k)) ≡ false)
+Inv-loop kinds imports exports n a₀ a =
+    (a ≤ n) × ((k : ℕ) → k < a → (isRetailer (at kinds k) && ltb (at imports k) (at exports k)) ≡ false)
 
 abbrev μ-loop : tie.MeasureT-loop
 μ-loop kinds imports exports n a₀ a = n - a
@@ -21,13 +22,22 @@ loop-holds : tie.Need-loop-holds Inv-loop μ-loop
 loop-holds c = (search needs, λ k l. absurd (omega arith))
 
 returns : tie.Need-returns Inv-loop μ-loop
-returns c = sym (first-is _ ((c .before .before .before .before .before .before) .loop .a) _ (omega arith) (sym ((c .before) .is-over .ensures) ∙ c .if1 .taken) ((c .before .before .before .before .before .before) .loop .inv .1))
+returns c =
+    sym (first-is _ ((c .before .before .before .before .before .before) .loop .a) _ (omega arith)
+    (sym ((c .before) .is-over .ensures) ∙ c .if1 .taken)
+    ((c .before .before .before .before .before .before) .loop .inv .1))
 
 loop-again : tie.Need-loop-again Inv-loop μ-loop
-loop-again c = (search needs, below-more _ _ ((c .before .before .before .before .before .before) .loop .inv .1) (sym ((c .before) .is-over .ensures) ∙ c .if1 .left))
+loop-again c = (
+  search needs,
+  below-more _ _ ((c .before .before .before .before .before .before) .loop .inv .1)
+      (sym ((c .before) .is-over .ensures) ∙ c .if1 .left),
+)
 
 returns-2 : tie.Need-returns-2 Inv-loop μ-loop
-returns-2 c = let e : (c .before) .loop .a ≡ (c .before .before) .args .n = omega arith in sym (first-none _ _ (rw e at ((c .before) .loop .inv .1)))
+returns-2 c =
+    let e : (c .before) .loop .a ≡ (c .before .before) .args .n = omega arith in
+    sym (first-none _ _ (rw e at ((c .before) .loop .inv .1)))
 
 pub first-over-spec : {M : Type 1} → statement M
 first-over-spec =

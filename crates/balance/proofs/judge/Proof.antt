@@ -9,7 +9,7 @@ use Rattle.hour.specs.Sheet.{Sheet, agents}
 use Rattle.hour.specs.Balance.{entering, leaving, losses, consumed}
 use Rattle.hour.specs.Answer.{firstOver}
 use Rattle.hour.proofs.Verdicts.{balance-7, balance-8, balance-9, balance-fine}
-use Rattle.balance.specs.Balances.{Read}
+use Rattle.balance.specs.Parts.{Read}
 use Rattle.balance.proofs.ByAgent.{over-is, entering-is, leaving-is, consumed-is}
 use Rattle.balance.proofs.judge.Statement.{statement}
 use Rattle.balance.proofs.judge.Tie as tie
@@ -33,11 +33,15 @@ passed c h r = omega (arith, over ((c .before)) h r, r .count)
 gained : (c : tie.Else2) (h : Sheet) → Of ((c .before .before .before .before .before)) h → leaving h ≤ entering h
 gained c h r = omega (arith, enters ((c .before .before)) h r, leaves ((c .before)) h r)
 
-borne : (c : tie.After-carried) (h : Sheet) → Of ((c .before .before .before .before .before .before .before)) h → c .carried .result ≡ (eqb (losses h) 0 || ltb 0 (consumed h))
+borne : (c : tie.After-carried) (h : Sheet)
+    → Of ((c .before .before .before .before .before .before .before)) h
+    → c .carried .result ≡ (eqb (losses h) 0 || ltb 0 (consumed h))
 unfolding losses
 borne c h r =
     c .carried .ensures
-    ∙ ap₂ (λ (x y : ℕ). eqb x 0 || ltb 0 y) (ap₂ _-_ (enters ((c .before .before .before .before)) h r) (leaves ((c .before .before .before)) h r)) ((c .before) .total3 .ensures ∙ consumed-is h _ _ _ _ _ r)
+    ∙ ap₂ (λ (x y : ℕ). eqb x 0 || ltb 0 y)
+    (ap₂ _-_ (enters ((c .before .before .before .before)) h r) (leaves ((c .before .before .before)) h r))
+    ((c .before) .total3 .ensures ∙ consumed-is h _ _ _ _ _ r)
 
 returns : tie.Need-returns
 returns c =
@@ -48,16 +52,20 @@ returns-2 : tie.Need-returns-2
 returns-2 c =
     λ h r.
     c .refuse2 .ensures
-    ∙ sym (balance-8 h (passed ((c .before .before .before .before)) h r) (omega (arith, enters ((c .before .before .before)) h r, leaves ((c .before .before)) h r)))
+    ∙ sym (balance-8 h (passed ((c .before .before .before .before)) h r)
+    (omega (arith, enters ((c .before .before .before)) h r, leaves ((c .before .before)) h r)))
 
 returns-3 : tie.Need-returns-3
-returns-3 c = λ h r. sym (balance-fine h (passed ((c .before .before .before .before .before .before)) h r) (gained ((c .before .before .before)) h r) (sym (borne ((c .before)) h r) ∙ c .if3 .taken))
+returns-3 c =
+    λ h r. sym (balance-fine h (passed ((c .before .before .before .before .before .before)) h r)
+    (gained ((c .before .before .before)) h r) (sym (borne ((c .before)) h r) ∙ c .if3 .taken))
 
 returns-4 : tie.Need-returns-4
 returns-4 c =
     λ h r.
     c .refuse3 .ensures
-    ∙ sym (balance-9 h (passed ((c .before .before .before .before .before .before .before)) h r) (gained ((c .before .before .before .before)) h r) (sym (borne ((c .before .before)) h r) ∙ (c .before) .if3 .left))
+    ∙ sym (balance-9 h (passed ((c .before .before .before .before .before .before .before)) h r)
+    (gained ((c .before .before .before .before)) h r) (sym (borne ((c .before .before)) h r) ∙ (c .before) .if3 .left))
 
 pub judge-spec : {M : Type 1} → statement M
 judge-spec =

@@ -1,14 +1,15 @@
 use borrow.Author.Needs.{needs}
 use native.Mathlib.Omega.{arith}
-use Prim.Native.Nat.{_≤_, _*_}
+use Prim.Native.Nat.{_≤_, _+_, _*_}
 use native.Mathlib.Nat.{mul-le-mul}
+use Rattle.rows.specs.Limits.{mostFactor, mostReading}
 use Rattle.hour.specs.Balance.{referred}
 use Rattle.balance.proofs.refer.Statement.{statement}
 use Rattle.balance.proofs.refer.Tie as tie
 
 -- a reading within its limit, times a factor within its limit
-small : (c : tie.After-wide2) → c .before .wide .result * c .wide2 .result ≤ 4000000 * 15000
-small c = mul-le-mul {n₂ = 4000000} {m₂ = 15000} (omega arith) (omega arith)
+small : (c : tie.After-wide2) → c .before .wide .result * c .wide2 .result ≤ mostReading * (10000 + mostFactor)
+small c = mul-le-mul {n₂ = mostReading} {m₂ = 10000 + mostFactor} (omega arith) (omega arith)
 
 mul-result : tie.Need-mul-result
 mul-result c = omega (arith, small c)

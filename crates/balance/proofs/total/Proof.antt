@@ -18,13 +18,22 @@ loop-holds : tie.Need-loop-holds Inv-loop μ-loop
 loop-holds c = (search needs, sym (sum-none _))
 
 add-sum : tie.Need-add-sum Inv-loop μ-loop
-add-sum c = omega (arith, sum-front ((c .before .before .before) .args .n) ((c .before .before) .loop .a) (at ((c .before .before .before) .args .values .now)) (omega arith))
+add-sum c =
+    omega (
+      arith,
+      sum-front ((c .before .before .before) .args .n) ((c .before .before) .loop .a)
+          (at ((c .before .before .before) .args .values .now)) (omega arith),
+    )
 
 loop-again : tie.Need-loop-again Inv-loop μ-loop
-loop-again c = (search needs, omega (arith, sum-step ((c .before .before) .loop .a) (at ((c .before .before .before) .args .values .now))))
+loop-again c = (
+  search needs,
+  omega (arith, sum-step ((c .before .before) .loop .a) (at ((c .before .before .before) .args .values .now))),
+)
 
 returns : tie.Need-returns Inv-loop μ-loop
-returns c = let e : (c .before) .loop .a ≡ (c .before .before) .args .n = omega arith in rw e at ((c .before) .loop .inv .1)
+returns c =
+    let e : (c .before) .loop .a ≡ (c .before .before) .args .n = omega arith in rw e at ((c .before) .loop .inv .1)
 
 pub total-spec : {M : Type 1} → statement M
 total-spec =

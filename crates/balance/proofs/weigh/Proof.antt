@@ -6,7 +6,8 @@ use Rattle.balance.proofs.Weighed.{weighed-read, weighed-refused}
 use Rattle.balance.proofs.weigh.Statement.{statement}
 use Rattle.balance.proofs.weigh.Tie as tie
 
-accepted : (c : tie.After-c) → readOf ((c .before .before .before .before) .args .s .now) ≡ Reading.Accepted (c .c .given .0 .0)
+accepted : (c : tie.After-c)
+    → readOf ((c .before .before .before .before) .args .s .now) ≡ Reading.Accepted (c .c .given .0 .0)
 accepted c = sym ((c .before .before) .read .ensures) ∙ c .c .given .1
 
 weigh-read-requires : tie.Need-weigh-read-requires
@@ -16,7 +17,10 @@ returns : tie.Need-returns
 returns c = weighed-read _ _ _ (accepted (c .before .before)) (c .weigh-read .ensures)
 
 returns-2 : tie.Need-returns-2
-returns-2 c = rw (c .turned-away .ensures) (weighed-refused _ _ (sym ((c .before .before .before .before) .read .ensures) ∙ (c .before .before) .why .given .1))
+returns-2 c =
+    rw (c .turned-away .ensures)
+    (weighed-refused _ _ (sym ((c .before .before .before .before) .read .ensures)
+    ∙ (c .before .before) .why .given .1))
 
 pub weigh-spec : {M : Type 1} → statement M
 weigh-spec =

@@ -9,7 +9,7 @@ use Rattle.sums.specs.Lists.{at}
 use Rattle.sums.proofs.Lists.{zeros-at}
 use Rattle.sums.proofs.Keyed.{keyed-none}
 use Rattle.rows.specs.Rows.{contractOf}
-use Rattle.contracts.specs.Assign.{countIn, rowIn}
+use Rattle.contracts.specs.Assign.{countIn, dealIn}
 use Rattle.settle.proofs.Holdings.{boughtTo, soldTo, buyer-there, seller-there, first-fits, second-fits, both-added}
 use Rattle.settle.proofs.agreed.hold.Statement.{statement}
 use Rattle.settle.proofs.agreed.hold.Tie as tie
@@ -73,7 +73,7 @@ slice-known3-to-start c = slice-known2-to-start (c .before)
 
 -- the row that was read
 is : (c : tie.After-contract-of Inv-loop μ-loop)
-    → c .contract-of .result ≡ rowIn (contract-of-to-start c .args .section .now) (contract-of-to-loop c .loop .j)
+    → c .contract-of .result ≡ dealIn (contract-of-to-start c .args .section .now) (contract-of-to-loop c .loop .j)
 is c = c .contract-of .ensures ∙ ap contractOf ((c .before) .row-at .ensures)
 
 inside : (c : tie.In-loop Inv-loop μ-loop) → (c .before) .loop .j < countIn (in-loop-to-start c .args .section .now)
@@ -93,9 +93,9 @@ loop-holds c = (
     arith,
     ap (λ (l : List ℕ). at l a) (slice-known-to-start c .pre .1),
     zeros-at mostAgents a,
-    keyed-none (λ j. rowIn (slice-known-to-start c .args .section .now) j .buyer)
+    keyed-none (λ j. dealIn (slice-known-to-start c .args .section .now) j .buyer)
         (at (slice-known-to-start c .args .amounts .now)) a,
-    keyed-none (λ j. rowIn (slice-known-to-start c .args .section .now) j .seller)
+    keyed-none (λ j. dealIn (slice-known-to-start c .args .section .now) j .seller)
         (at (slice-known-to-start c .args .amounts .now)) a,
   ),
 )

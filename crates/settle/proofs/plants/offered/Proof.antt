@@ -2,7 +2,7 @@ use borrow.Author.Needs.{needs}
 use native.Mathlib.Omega.{arith}
 use Prim.Native.Nat.{_≤_, _-_, _+_}
 use mathlib.Core.Path.{_≡_, ap, _∙_, sym}
-use Rattle.rows.specs.Limits.{mostEnergy}
+use Rattle.rows.specs.Limits.{mostAvailable}
 use Rattle.rows.specs.Bytes.{wordsAt}
 use Rattle.rows.specs.Rows.{plantOf}
 use Rattle.rows.specs.declared.Plant.{Plant}
@@ -46,7 +46,7 @@ add-sum c =
       ap (λ (p : Plant). p .availability) (is ((c .before))),
       accepted-plant _ _ ((c .before .before .before .before .before .before .before) .pre) (l .i)
           (omega arith) .fits .availability,
-      sum-most (l .i) mostEnergy
+      sum-most (l .i) mostAvailable
           (λ j. plantOf (wordsAt (a .bytes .now) (a .c .agents + a .c .boundaries + j)) .availability)
           (λ j m. accepted-plant _ _ ((c .before .before .before .before .before .before .before) .pre) j
           (omega arith) .fits .availability),

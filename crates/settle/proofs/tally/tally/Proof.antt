@@ -3,7 +3,7 @@ use native.Mathlib.Omega.{arith}
 use Prim.Native.Nat.{ℕ, _≤_, _<_, _+_, _-_}
 use mathlib.Core.Path.{_≡_, refl, _∙_, sym}
 use lib.ListN.{length, length-set}
-use Rattle.rows.specs.Limits.{mostAgents, mostEnergy}
+use Rattle.rows.specs.Limits.{mostAgents, mostAvailable}
 use Rattle.sums.specs.Sums.{keyed}
 use Rattle.sums.specs.Lists.{at}
 use Rattle.sums.proofs.Keyed.{keyed-none, keyed-beside, keyed-most}
@@ -63,7 +63,7 @@ add-out c =
       shared-slice-known2-to-start c .pre .value (l .j) (omega arith),
       shared-slice-known2-to-start c .pre .small k (there (shared-slice-known2-to-in-loop c)),
       shared-slice-known2-to-start c .pre .few,
-      keyed-most (at (a .keys .now)) (at (a .values .now)) (l .j) k mostEnergy
+      keyed-most (at (a .keys .now)) (at (a .values .now)) (l .j) k mostAvailable
           (λ j m. shared-slice-known2-to-start c .pre .value j (omega arith)),
     )
 
