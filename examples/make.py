@@ -1,5 +1,5 @@
 #!/usr/bin/env python3
-"""Makes the sheets of this folder, and the readable dump of the worked hour, from the tables below.
+"""Makes the sheets of this folder, and the readable dumps of the two worked ones, from the tables below.
 
 Run it anywhere: it writes beside itself. The pages (*.page) are not made here: they are what the sheets have to print.
 """
@@ -12,19 +12,22 @@ SECTIONS = ["agents", "boundaries", "plants", "contracts"]
 FIELDS = {
     "agents": ["kind"],
     "boundaries": ["agent", "factor", "import", "export"],
-    "plants": ["agent", "inflexible", "price", "availability"],
+    "plants": ["agent", "inflexible", "must-run", "price", "availability"],
     "contracts": ["seller", "buyer", "kind", "price", "quantity"],
 }
 
 WORKED_HOUR = {
     "agents": [(2,), (1,), (1,), (2,)],
     "boundaries": [(0, 0, 0, 600), (3, 0, 10, 410), (1, 0, 500, 0), (2, 1000, 400, 0)],
-    "plants": [(0, 0, 5000, 700), (3, 0, 8000, 500), (0, 1, 9000, 100)],
+    "plants": [(0, 0, 0, 5000, 700), (3, 0, 0, 8000, 500), (0, 1, 0, 9000, 100)],
     "contracts": [(0, 1, 1, 6000, 400), (3, 1, 3, 7000, 100), (0, 1, 3, 7000, 50), (3, 2, 2, 6500, 500)],
 }
 
 # contract 2 names agent 1, a retailer, as its seller
 MARCH = dict(WORKED_HOUR, contracts=[(0, 1, 1, 6000, 400), (3, 1, 3, 7000, 100), (1, 1, 3, 7000, 50), (3, 2, 2, 6500, 500)])
+
+# plant 2 must run 60 of its 100 kWh, though it is the dearest
+MUST_RUN = dict(WORKED_HOUR, plants=[(0, 0, 0, 5000, 700), (3, 0, 0, 8000, 500), (0, 1, 60, 9000, 100)])
 
 EMPTY_HOUR = {section: [] for section in SECTIONS}
 
@@ -33,9 +36,9 @@ def row_bytes(section, row):
     """The 16 bytes of a row; all numbers are little-endian."""
     if section == "agents":
         return struct.pack("<IIII", row[0], 0, 0, 0)
-    if section == "contracts":
-        return struct.pack("<HHIII", *row)
-    return struct.pack("<HHIII", row[0], row[1], 0, row[2], row[3])
+    if section == "boundaries":
+        return struct.pack("<HHIII", row[0], row[1], 0, row[2], row[3])
+    return struct.pack("<HHIII", *row)
 
 
 def trailer(sheet):
@@ -75,6 +78,8 @@ def dump(sheet):
 def main():
     (FOLDER / "worked-hour.sheet").write_bytes(sheet_bytes(WORKED_HOUR))
     (FOLDER / "worked-hour.txt").write_text(dump(WORKED_HOUR))
+    (FOLDER / "must-run.sheet").write_bytes(sheet_bytes(MUST_RUN))
+    (FOLDER / "must-run.txt").write_text(dump(MUST_RUN))
     (FOLDER / "march.sheet").write_bytes(sheet_bytes(MARCH))
     (FOLDER / "empty-hour.sheet").write_bytes(sheet_bytes(EMPTY_HOUR))
 

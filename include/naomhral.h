@@ -52,14 +52,15 @@ enum {
     NAOMHRAL_BAD_GAIN = 8,
     NAOMHRAL_UNSHARED = 9,
     NAOMHRAL_UNCOVERED = 10,
-    NAOMHRAL_NO_ROOM = 11
+    NAOMHRAL_NO_ROOM = 11,
+    NAOMHRAL_OVERRUN = 13 /* must-runs sum to more than the demand; after 10 and before 11 */
 };
 
 #ifdef __cplusplus
 extern "C" {
 #endif
 
-/* Settles an hour. Refusals 1 to 11. */
+/* Settles an hour. Refusals 1 to 10, 13 and 11, in this order. */
 uint32_t naomhral_settle(
     const uint8_t *sheet, /* the sheet's bytes */
     size_t sheet_length, /* how many */
@@ -89,8 +90,8 @@ uint32_t naomhral_write(
     size_t agents_length, /* the agents, at most 64 */
     const uint32_t *boundaries, /* agent, factor, import, export of each boundary */
     size_t boundaries_length, /* 4 times the boundaries, at most 256 of them */
-    const uint32_t *plants, /* agent, inflexible (0 or 1), price, availability of each plant */
-    size_t plants_length, /* 4 times the plants, at most 64 of them */
+    const uint32_t *plants, /* agent, inflexible (0 or 1), must-run, price, availability of each plant */
+    size_t plants_length, /* 5 times the plants, at most 64 of them */
     const uint32_t *contracts, /* seller, buyer, kind, price, quantity of each contract */
     size_t contracts_length, /* 5 times the contracts, at most 256 of them */
     uint8_t *out, /* the sheet */

@@ -20,6 +20,7 @@ impl Refusal {
     pub const UNCOVERED: u32 = 10;
     pub const NO_ROOM: u32 = 11;
     pub const NOT_THERE: u32 = 12;
+    pub const OVERRUN: u32 = 13;
 
     pub const fn new(number: u32, place: u32) -> Refusal {
         Refusal { number, place }
@@ -40,6 +41,7 @@ impl Refusal {
             Refusal::UNCOVERED => "availabilities sum to less than the demand",
             Refusal::NO_ROOM => "a lent list or buffer is too short",
             Refusal::NOT_THERE => "no such row or section",
+            Refusal::OVERRUN => "must-runs sum to more than the demand",
             _ => "an unknown refusal",
         }
     }

@@ -123,6 +123,9 @@ struct Columns {
     // price, row, inflexible and availability in one number, so that the numbers' order is the merit order
     plants: [u64; PLANTS],
     available: u32,
+    // what each plant must run, and all of it
+    musts: [u32; PLANTS],
+    must: u32,
     // price, kind, row and quantity in one number, so that the numbers' order is the contracts' order
     deals: [u64; CONTRACTS],
     sellers: [u8; CONTRACTS],
@@ -171,15 +174,18 @@ fn boundary_rows(s: &Sections, c: &mut Columns, agents: u32) -> Answer<()> {
 
 #[inline]
 fn plant_rows(s: &Sections, c: &mut Columns) -> Answer<()> {
-    for (i, [who, filler, price, availability]) in rows(s.plants) {
+    for (i, [who, must, price, availability]) in rows(s.plants) {
         let (agent, flag) = (who & 0xffff, who >> 16);
         let generates = (agent < 64) & ((c.generators >> (agent & 63)) & 1 == 1);
-        if !generates | (flag > 1) | (price > PRICE) | (availability > ENERGY) | (filler != 0) {
+        let bad_must = (must > availability) | ((flag == 0) & (must != 0));
+        if !generates | (flag > 1) | (price > PRICE) | (availability > ENERGY) | bad_must {
             return refuse(5, i);
         }
         c.holders[i & 63] = agent as u8;
         c.plants[i & 63] = (price as u64) << 32 | (i as u64) << 24 | (flag as u64) << 23 | availability as u64;
         c.available += availability;
+        c.musts[i & 63] = must;
+        c.must += must;
     }
     Ok(())
 }
@@ -224,6 +230,8 @@ pub fn settle(
         holders: [0; PLANTS],
         plants: [0; PLANTS],
         available: 0,
+        musts: [0; PLANTS],
+        must: 0,
         deals: [0; CONTRACTS],
         sellers: [0; CONTRACTS],
         buyers: [0; CONTRACTS],
@@ -264,6 +272,9 @@ pub fn settle(
     if c.available < demand {
         return refuse(10, 0);
     }
+    if c.must > demand {
+        return refuse(13, 0);
+    }
     let roomy = figures.len() >= 6 * agents && money.len() >= agents && schedule.len() >= plants && amounts.len() >= contracts;
     if !roomy {
         return refuse(11, 0);
@@ -284,7 +295,7 @@ pub fn settle(
     for a in 0..agents {
         own[a] = consumption[a] + losses_of[a];
     }
-    let price = dispatch(&mut c.plants[..plants], &c.holders, demand, schedule, &mut own);
+    let price = dispatch(&mut c.plants[..plants], &c.holders, &c.musts, demand - c.must, schedule, &mut own);
 
     let mut contracted = [0u32; AGENTS];
     assign(&mut c, contracts, agents, &own, amounts, &mut contracted, &mut keys);
@@ -299,20 +310,29 @@ pub fn settle(
     Ok(Summary { price, demand, losses })
 }
 
-/// Schedules the plants by merit, adds each schedule to its holder's energy and hands back the price.
+/// Schedules what each plant must run and, by merit, the rest of the demand; adds each schedule to its holder's energy and hands
+/// back the price.
 #[inline]
-fn dispatch(plants: &mut [u64], holders: &[u8; PLANTS], demand: u32, schedule: &mut [u32], own: &mut [u32; AGENTS]) -> u32 {
-    let mut left = demand;
+fn dispatch(
+    plants: &mut [u64],
+    holders: &[u8; PLANTS],
+    musts: &[u32; PLANTS],
+    rest: u32,
+    schedule: &mut [u32],
+    own: &mut [u32; AGENTS],
+) -> u32 {
+    let mut left = rest;
     let mut price = 0;
     if left > 0 {
         plants.sort_unstable();
     }
     for &plant in plants.iter() {
         let row = (plant >> 24) as usize & 63;
-        let given = left.min(plant as u32 & 0x7f_ffff);
+        let more = left.min((plant as u32 & 0x7f_ffff) - musts[row]);
+        let given = musts[row] + more;
         schedule[row] = given;
         own[(holders[row] & 63) as usize] += given;
-        left -= given;
+        left -= more;
         if given > 0 && plant >> 23 & 1 == 0 {
             price = (plant >> 32) as u32;
         }

@@ -51,7 +51,7 @@ fn refusal_of(number: u32, place: u32) -> Result<(), Refusal> {
 }
 
 /// Settles an hour. Figures take six cells an agent (loss share, own energy, generator import, contracted, bought, sold),
-/// money one an agent, schedule one a plant, amounts one a contract. Refusals 1 to 11.
+/// money one an agent, schedule one a plant, amounts one a contract. Refusals 1 to 10, 13 and 11, in this order.
 pub fn settle(
     sheet: &[u8],
     figures: &mut [u32],
@@ -95,8 +95,8 @@ pub fn read(sheet: &[u8]) -> Result<Counts, Refusal> {
 }
 
 /// Writes a sheet from one list a section, the named fields row by row: 1 number an agent (kind), 4 a boundary (agent, factor,
-/// import, export), 4 a plant (agent, inflexible, price, availability), 5 a contract (seller, buyer, kind, price, quantity).
-/// Hands back the length written. Refusals 2 to 6 and 11.
+/// import, export), 5 a plant (agent, inflexible, must-run, price, availability), 5 a contract (seller, buyer, kind, price,
+/// quantity). Hands back the length written. Refusals 2 to 6 and 11.
 pub fn write(agents: &[u32], boundaries: &[u32], plants: &[u32], contracts: &[u32], out: &mut [u8]) -> Result<usize, Refusal> {
     let mut answer = [0u32; 3];
     // As in `settle`.

@@ -1,4 +1,4 @@
-//! Document 01 written out plainly, from the paper alone: wide numbers, sorted copies, no thought of speed. The tests hold the
+//! Document 01 with P1 of document 02 written out plainly, from the papers alone: wide numbers, sorted copies, no thought of speed. The tests hold the
 //! proved library against it. Its functions have the shapes of the wrapper's.
 
 use crate::answers::{Counts, Refusal, Summary};
@@ -33,6 +33,7 @@ pub struct Boundary {
 pub struct Plant {
     pub agent: u32,
     pub inflexible: u32,
+    pub must_run: u32,
     pub price: u32,
     pub availability: u32,
 }
@@ -67,7 +68,12 @@ impl Sheet {
     }
 
     fn good_plant(&self, p: &Plant) -> bool {
-        self.kind_of(p.agent) == Some(GENERATOR) && p.inflexible <= 1 && p.price <= PRICE && p.availability <= ENERGY
+        let must_run_most = if p.inflexible == 0 { 0 } else { p.availability };
+        self.kind_of(p.agent) == Some(GENERATOR)
+            && p.inflexible <= 1
+            && p.must_run <= must_run_most
+            && p.price <= PRICE
+            && p.availability <= ENERGY
     }
 
     fn good_contract(&self, c: &Contract) -> bool {
@@ -135,10 +141,10 @@ pub fn open(sheet: &[u8]) -> Answer<Sheet> {
         }
         found.boundaries.push(row);
     }
-    for (i, [who, filler, price, availability]) in rows_of(2) {
+    for (i, [who, must_run, price, availability]) in rows_of(2) {
         let (agent, inflexible) = halves(who);
-        let row = Plant { agent, inflexible, price, availability };
-        if !found.good_plant(&row) || filler != 0 {
+        let row = Plant { agent, inflexible, must_run, price, availability };
+        if !found.good_plant(&row) {
             return refuse(5, i);
         }
         found.plants.push(row);
@@ -168,7 +174,7 @@ pub fn read(sheet: &[u8]) -> Answer<Counts> {
 
 /// The bytes of a sheet with these fields: refusals 2 to 6.
 fn written(agents: &[u32], boundaries: &[u32], plants: &[u32], contracts: &[u32]) -> Answer<Vec<u8>> {
-    let lists = [(agents, 1), (boundaries, 4), (plants, 4), (contracts, 5)];
+    let lists = [(agents, 1), (boundaries, 4), (plants, 5), (contracts, 5)];
     for (s, (list, fields)) in lists.iter().enumerate() {
         if list.len() % fields != 0 || (list.len() / fields) as u64 > LIMITS[s] {
             return refuse(2, 0);
@@ -190,11 +196,12 @@ fn written(agents: &[u32], boundaries: &[u32], plants: &[u32], contracts: &[u32]
         }
         put([f[0] + 65_536 * f[1], 0, f[2], f[3]]);
     }
-    for (i, f) in plants.chunks(4).enumerate() {
-        if !s.good_plant(&Plant { agent: f[0], inflexible: f[1], price: f[2], availability: f[3] }) {
+    for (i, f) in plants.chunks(5).enumerate() {
+        let row = Plant { agent: f[0], inflexible: f[1], must_run: f[2], price: f[3], availability: f[4] };
+        if !s.good_plant(&row) {
             return refuse(5, i);
         }
-        put([f[0] + 65_536 * f[1], 0, f[2], f[3]]);
+        put([f[0] + 65_536 * f[1], f[2], f[3], f[4]]);
     }
     for (i, f) in contracts.chunks(5).enumerate() {
         let row = Contract { seller: f[0], buyer: f[1], kind: f[2], price: f[3], quantity: f[4] };
@@ -294,14 +301,16 @@ fn assigned(demand: u64, rows: &[&Contract]) -> Vec<u64> {
 
 // ---- ideal dispatch
 
+/// Must-run energy first; the rest of the demand then follows the price order up to each availability.
 fn dispatched(demand: u64, plants: &[Plant]) -> Vec<u64> {
-    let mut schedule = vec![0; plants.len()];
+    let mut schedule: Vec<u64> = plants.iter().map(|p| p.must_run as u64).collect();
+    let mut left = demand - schedule.iter().sum::<u64>();
     let mut order: Vec<usize> = (0..plants.len()).collect();
     order.sort_by_key(|&i| (plants[i].price, i));
-    let mut left = demand;
     for i in order {
-        schedule[i] = left.min(plants[i].availability as u64);
-        left -= schedule[i];
+        let more = left.min(plants[i].availability as u64 - schedule[i]);
+        schedule[i] += more;
+        left -= more;
     }
     schedule
 }
@@ -332,7 +341,7 @@ fn referred(reading: u32, factor: u32) -> u64 {
     (reading as u64 * (10_000 + factor as u64) + 5_000) / 10_000
 }
 
-/// Refusals 1 to 10, or the settled hour.
+/// Refusals 1 to 10 and 13, or the settled hour.
 pub fn hour(sheet: &[u8]) -> Answer<Hour> {
     let s = open(sheet)?;
     let agents = s.kinds.len();
@@ -364,6 +373,9 @@ pub fn hour(sheet: &[u8]) -> Answer<Hour> {
     let demand = commercial.iter().sum::<u64>() + own_import.iter().sum::<u64>();
     if s.plants.iter().map(|p| p.availability as u64).sum::<u64>() < demand {
         return refuse(10, 0);
+    }
+    if s.plants.iter().map(|p| p.must_run as u64).sum::<u64>() > demand {
+        return refuse(13, 0);
     }
 
     let mut amounts = vec![0; s.contracts.len()];

@@ -7,8 +7,8 @@ pub struct Rows {
     pub agents: Vec<u32>,
     /// agent, factor, import, export
     pub boundaries: Vec<[u32; 4]>,
-    /// agent, inflexible, price, availability
-    pub plants: Vec<[u32; 4]>,
+    /// agent, inflexible, must-run, price, availability
+    pub plants: Vec<[u32; 5]>,
     /// seller, buyer, kind, price, quantity
     pub contracts: Vec<[u32; 5]>,
 }
@@ -25,8 +25,8 @@ impl Rows {
         for &[agent, factor, import, export] in &self.boundaries {
             put([pair(agent, factor), 0, import, export]);
         }
-        for &[agent, inflexible, price, availability] in &self.plants {
-            put([pair(agent, inflexible), 0, price, availability]);
+        for &[agent, inflexible, must_run, price, availability] in &self.plants {
+            put([pair(agent, inflexible), must_run, price, availability]);
         }
         for &[seller, buyer, kind, price, quantity] in &self.contracts {
             put([pair(seller, buyer), kind, price, quantity]);
@@ -84,9 +84,16 @@ pub fn worked() -> Rows {
     Rows {
         agents: vec![2, 1, 1, 2],
         boundaries: vec![[0, 0, 0, 600], [3, 0, 10, 410], [1, 0, 500, 0], [2, 1000, 400, 0]],
-        plants: vec![[0, 0, 5000, 700], [3, 0, 8000, 500], [0, 1, 9000, 100]],
+        plants: vec![[0, 0, 0, 5000, 700], [3, 0, 0, 8000, 500], [0, 1, 0, 9000, 100]],
         contracts: vec![[0, 1, 1, 6000, 400], [3, 1, 3, 7000, 100], [0, 1, 3, 7000, 50], [3, 2, 2, 6500, 500]],
     }
+}
+
+/// The worked hour with a plant that must run 60 kWh.
+pub fn must_run() -> Rows {
+    let mut rows = worked();
+    rows.plants[2][2] = 60;
+    rows
 }
 
 /// The worked hour with a retailer as the seller of contract 2: refused with 6.
@@ -98,8 +105,8 @@ pub fn march() -> Rows {
 
 /// A settled sheet of any size. Every fourth agent is a generator; the boundaries and the contracts go round the agents. Retailers
 /// import 40,000 to 60,000 a row at factors 0 to 400, and the generators export all that and 2 in 100 more, in equal parts. Plant
-/// prices are 8 values and contract prices 4, so that most prices are shared by several rows; every eighth plant is inflexible. The
-/// availabilities are 1.5 times the demand in all, and the contracts of a retailer sum to about 1.5 times its demand, kinds 1, 2 and
+/// prices are 8 values and contract prices 4, so that most prices are shared by several rows; every eighth plant is inflexible, with
+/// no must-run. The availabilities are 1.5 times the demand in all, and the contracts of a retailer sum to about 1.5 times its demand, kinds 1, 2 and
 /// 3 in turn, so that the demand falls inside them and a price group is shared.
 pub fn market(agents: usize, boundaries: usize, plants: usize, contracts: usize) -> Rows {
     let mut random = Random(1995);
@@ -133,7 +140,7 @@ pub fn market(agents: usize, boundaries: usize, plants: usize, contracts: usize)
     for i in 0..plants {
         let price = 5_000 + 1_000 * random.range(0, 7);
         let inflexible = (i % 8 == 7) as u32;
-        rows.plants.push([generators[i % generators.len()], inflexible, price, random.range(each, each + each / 50)]);
+        rows.plants.push([generators[i % generators.len()], inflexible, 0, price, random.range(each, each + each / 50)]);
     }
 
     for i in 0..contracts {

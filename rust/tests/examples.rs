@@ -1,10 +1,10 @@
 //! The files of `examples/`, `include/` and `docs/` say the same as the library.
-use naomhral::sheets;
+use naomhral::{plain, sheets};
 use std::fs;
 use std::path::{Path, PathBuf};
 use std::process::Command;
 
-const NAMES: [&str; 3] = ["worked-hour", "march", "empty-hour"];
+const NAMES: [&str; 4] = ["worked-hour", "must-run", "march", "empty-hour"];
 
 fn repository() -> PathBuf {
     Path::new(env!("CARGO_MANIFEST_DIR")).join("..")
@@ -22,10 +22,12 @@ fn text(name: &str) -> String {
 #[test]
 fn sheets_and_pages() {
     assert_eq!(bytes("examples/worked-hour.sheet"), sheets::worked().bytes());
+    assert_eq!(bytes("examples/must-run.sheet"), sheets::must_run().bytes());
     assert_eq!(bytes("examples/march.sheet"), sheets::march().bytes());
     assert_eq!(bytes("examples/empty-hour.sheet"), [0; 32]);
     for name in NAMES {
         let sheet = bytes(&format!("examples/{name}.sheet"));
+        assert_eq!(plain::printed(&sheet), text(&format!("examples/{name}.page")), "{name}");
         let mut out = [0; naomhral::PAGE_MOST];
         let length = naomhral::page(&sheet, &mut out).unwrap();
         assert_eq!(out[..length], bytes(&format!("examples/{name}.page")), "{name}");
@@ -66,7 +68,9 @@ fn dumps() {
     let sheet = bytes("examples/worked-hour.sheet");
     assert_eq!(dumped(&text("examples/worked-hour.txt")), sheet);
     assert_eq!(dumped(&text("docs/FORMAT.md")), sheet);
+    assert_eq!(dumped(&text("examples/must-run.txt")), bytes("examples/must-run.sheet"));
     assert!(text("docs/USING.md").contains(&text("examples/worked-hour.page")));
+    assert!(text("docs/USING.md").contains(&text("examples/must-run.page")));
 }
 
 #[test]
@@ -97,7 +101,7 @@ fn the_c_example() {
         .status()
         .expect("cc, the C compiler");
     assert!(compiled.success());
-    for (name, status) in NAMES.into_iter().zip([0, 1, 0]) {
+    for (name, status) in NAMES.into_iter().zip([0, 0, 1, 0]) {
         let run = Command::new(&program).arg(repository().join(format!("examples/{name}.sheet"))).output().unwrap();
         let printed = String::from_utf8(run.stdout).unwrap();
         let own = printed.strip_prefix(&text(&format!("examples/{name}.page"))).expect(name);

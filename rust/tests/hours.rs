@@ -65,11 +65,13 @@ impl Embedded {
 /// What the sheets have to reach.
 #[derive(Default, Debug)]
 struct Seen {
-    numbers: [usize; 12],
+    numbers: [usize; 14],
     shared_groups: usize,
     conditional_refused: usize,
     conditional_taken: usize,
     dearer_inflexible: usize,
+    must_run_alone: usize,
+    must_run_and_more: usize,
     equal_offers_cut: usize,
     losses_cut: usize,
     retailers_selling: usize,
@@ -87,6 +89,10 @@ impl Seen {
         self.conditional_refused += is(deals().any(|(c, &q)| c.kind == 2 && q == 0 && c.quantity > 0));
         self.conditional_taken += is(deals().any(|(c, &q)| c.kind == 2 && q > 0));
         self.dearer_inflexible += is(offers().any(|(p, &q)| p.inflexible == 1 && q > 0 && p.price as u64 > h.price));
+        let musts =
+            |more: bool| offers().any(|(p, &q)| p.must_run > 0 && q < p.availability as u64 && more == (q > p.must_run as u64));
+        self.must_run_alone += is(musts(false));
+        self.must_run_and_more += is(musts(true));
         self.equal_offers_cut +=
             is(offers().any(|(p, &q)| cut(p, q) && s.plants.iter().filter(|other| other.price == p.price).count() > 1));
         self.losses_cut += is(h.losses > 0 && h.lines.iter().filter(|l| l.share > 0).count() > 1);
@@ -97,7 +103,8 @@ impl Seen {
     fn check(&self) {
         eprintln!("{self:?}");
         for (number, count) in self.numbers.iter().enumerate() {
-            assert!(*count >= 100, "answer {number} was given {count} times");
+            // 12 is for rows and sections that are asked for
+            assert!(*count >= 100 || number == 12, "answer {number} was given {count} times");
         }
         assert!(self.numbers[0] * 5 >= self.numbers.iter().sum::<usize>() * 2, "too few settled");
         let features = [
@@ -105,6 +112,8 @@ impl Seen {
             self.conditional_refused,
             self.conditional_taken,
             self.dearer_inflexible,
+            self.must_run_alone,
+            self.must_run_and_more,
             self.equal_offers_cut,
             self.losses_cut,
             self.retailers_selling,

@@ -23,6 +23,6 @@ fn under_16_kib() {
     let [sheets, deepest] = numbers[..] else { panic!("{printed}") };
     println!("{sheets} sheets, at most {deepest} bytes of stack");
     // a settlement of the largest sheet has some kilobytes of scratch: less than that would be a measure that missed it
-    assert!(sheets > 1_000 && deepest > 4_096, "{printed}");
+    assert!(sheets >= 800 && deepest > 4_096, "{printed}");
     assert!(deepest < 16_384, "{printed}");
 }

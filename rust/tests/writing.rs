@@ -16,7 +16,7 @@ fn fields(sheet: &[u8]) -> [Vec<u32>; 4] {
     [
         s.kinds,
         s.boundaries.iter().flat_map(|b| [b.agent, b.factor, b.import, b.export]).collect(),
-        s.plants.iter().flat_map(|p| [p.agent, p.inflexible, p.price, p.availability]).collect(),
+        s.plants.iter().flat_map(|p| [p.agent, p.inflexible, p.must_run, p.price, p.availability]).collect(),
         s.contracts.iter().flat_map(|c| [c.seller, c.buyer, c.kind, c.price, c.quantity]).collect(),
     ]
 }
@@ -34,7 +34,7 @@ fn lists(random: &mut Random) -> [Vec<u32>; 4] {
         let length = match random.below(3) {
             0 => lists[s].len() + random.range(1, 4) as usize,
             1 => lists[s].len().saturating_sub(random.range(1, 4) as usize),
-            _ => [64, 256 * 4, 64 * 4, 256 * 5][s] + random.range(0, 5) as usize,
+            _ => [64, 256 * 4, 64 * 5, 256 * 5][s] + random.range(0, 5) as usize,
         };
         let value = random.pick(&[0, 1, any]);
         lists[s].resize(length, value);
@@ -48,7 +48,7 @@ fn writing_as_plain_does() {
     let mut numbers = [0; 12];
     for n in 0..40_000 {
         let lists = lists(&mut random);
-        let rows = lists[0].len() + lists[1].len() / 4 + lists[2].len() / 4 + lists[3].len() / 5;
+        let rows = lists[0].len() + lists[1].len() / 4 + lists[2].len() / 5 + lists[3].len() / 5;
         let before = lent_u8(length_near(&mut random, 32 + 16 * rows, 12));
         let mut expected = before.clone();
         let answer = write(plain::write, &lists, &mut expected);

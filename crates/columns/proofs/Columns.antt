@@ -68,6 +68,10 @@ module _ (s : List ℕ) (c : Counts) where
     unfolding columnsOf
     flag-at = getD-listTo 0 _ _ i l
 
+    pub must-at : at (columnsOf s c .mustRun) i ≡ plantAt s c i .must
+    unfolding columnsOf
+    must-at = getD-listTo 0 _ _ i l
+
     pub offer-at : at (columnsOf s c .offers) i ≡ plantAt s c i .price
     unfolding columnsOf
     offer-at = getD-listTo 0 _ _ i l
@@ -146,6 +150,7 @@ module _ (s : List ℕ) (c : Counts) where
           flag = omega (arith, flag-at i l, r .fits .flag);
           offer = omega (arith, offer-at i l, r .fits .price);
           available = omega (arith, available-at i l, r .fits .availability);
+          mustRun = omega (arith, must-at i l, available-at i l, r .fits .within);
         }
 
     contract-sound : (j : ℕ) → j < contracts (columnsOf s c) → ContractSound (columnsOf s c) j
@@ -179,6 +184,7 @@ module _ (s : List ℕ) (c : Counts) where
             imports = length-listTo _ _ ∙ sym boundaries-long;
             exports = length-listTo _ _ ∙ sym boundaries-long;
             flags = length-listTo _ _ ∙ sym plants-long;
+            mustRun = length-listTo _ _ ∙ sym plants-long;
             offers = length-listTo _ _ ∙ sym plants-long;
             available = length-listTo _ _ ∙ sym plants-long;
             buyers = length-listTo _ _ ∙ sym contracts-long;

@@ -9,10 +9,10 @@ use lib.Dec.{ltb, leb, eqb}
 use lib.ListN.{length}
 use Rattle.sums.specs.Sums.{sum}
 use Rattle.sums.specs.Lists.{at}
-use Rattle.refusals.specs.Refusals.{badLength, badLayout, badAgent, badBoundary, badPlant, badContract, badExports, badGain, unshared, uncovered, noRoom, refusedUnless, orElse, firstOf, firstBad, numberOf}
+use Rattle.refusals.specs.Refusals.{badLength, badLayout, badAgent, badBoundary, badPlant, badContract, badExports, badGain, unshared, uncovered, overrun, noRoom, refused, refusedUnless, orElse, firstOf, firstBad, numberOf}
 use Rattle.refusals.specs.declared.Verdict.{Verdict}
 use Rattle.rows.specs.Bytes.{wordsAt}
-use Rattle.rows.specs.Rows.{agentBlank, rowBlank, agentGood, boundaryGood, plantGood, contractGood}
+use Rattle.rows.specs.Rows.{agentBlank, boundaryBlank, agentGood, boundaryGood, plantGood, contractGood}
 use Rattle.sheet.specs.Reading.{boundaryStart, plantStart, lengthGood, countsOf, layoutGood, kindAt, agentVerdict, boundaryVerdict, plantVerdict, contractVerdict, checks, readVerdict}
 use Rattle.sheet.specs.Asking.{agentAt, boundaryAt, plantAt, contractAt}
 use Rattle.sheet.specs.declared.Counts.{Counts}
@@ -82,12 +82,11 @@ read-between bytes =
 
     boundaryTest : List ℕ → Counts → ℕ → Bool
     boundaryTest s c i =
-        rowBlank (wordsAt s (boundaryStart c + i))
+        boundaryBlank (wordsAt s (boundaryStart c + i))
         && boundaryGood (kindAt s c (boundaryAt s c i .agent)) (boundaryAt s c i)
 
     plantTest : List ℕ → Counts → ℕ → Bool
-    plantTest s c i =
-        rowBlank (wordsAt s (plantStart c + i)) && plantGood (kindAt s c (plantAt s c i .agent)) (plantAt s c i)
+    plantTest s c i = plantGood (kindAt s c (plantAt s c i .agent)) (plantAt s c i)
 
     contractTest : List ℕ → Counts → ℕ → Bool
     contractTest s c i =
@@ -118,12 +117,23 @@ balance-between s =
     shared : Bool
     shared = eqb (losses s) 0 || ltb 0 (consumed s)
 
--- the plants with 10
-pub cover-between : (s : Sheet) → Between 10 10 (coverVerdict s)
+-- the plants with 10 or 13
+pub cover-between : (s : Sheet) → Between 10 13 (coverVerdict s)
 unfolding coverVerdict
 cover-between s =
-    unless-between 10 10 (leb (hourDemand s) (sum (plants s) (at (s .available)))) uncovered 0 (omega arith)
-    (omega arith)
+    first-between 10 13 (refusedUnless enough uncovered 0 ∷ refusedUnless runs overrun 0 ∷ []) (
+      unless-between 10 13 enough uncovered 0 (omega arith) (omega arith),
+      (
+        unless-between 10 13 runs overrun 0 (omega arith) (omega arith),
+        tt,
+      ),
+    )
+  where
+    enough : Bool
+    enough = leb (hourDemand s) (sum (plants s) (at (s .available)))
+
+    runs : Bool
+    runs = leb (sum (plants s) (at (s .mustRun))) (hourDemand s)
 
 -- the room with 11
 pub room-between : (s : Sheet) (l : Lent) → Between 11 11 (roomVerdict s l)
@@ -141,14 +151,19 @@ room-between s l =
 abbrev pub inOrder : (reads balance cover room : Verdict) → Verdict
 inOrder r b c m = orElse r (orElse b (orElse c (orElse m Verdict.Fine)))
 
--- 0, or one of 1 to 11
-pub listed : (r b c m : Verdict) → Between 1 6 r → Between 7 9 b → Between 10 10 c → Between 11 11 m
-    → (numberOf (inOrder r b c m) ≡ 0) ⊎ ((1 ≤ numberOf (inOrder r b c m)) × (numberOf (inOrder r b c m) ≤ 11))
-listed Verdict.Fine Verdict.Fine Verdict.Fine Verdict.Fine hr hb hc hm = inl refl
-listed Verdict.Fine Verdict.Fine Verdict.Fine (Verdict.Refused q) hr hb hc hm = inr (omega arith, omega arith)
-listed Verdict.Fine Verdict.Fine (Verdict.Refused q) m hr hb hc hm = inr (omega arith, omega arith)
-listed Verdict.Fine (Verdict.Refused q) c m hr hb hc hm = inr (omega arith, omega arith)
-listed (Verdict.Refused q) b c m hr hb hc hm = inr (omega arith, omega arith)
+-- 0, or one of 1 to 11, or 13
+pub listed : (r b c m : Verdict)
+    → Between 1 6 r
+    → Between 7 9 b
+    → (c ≡ Verdict.Fine) ⊎ ((c ≡ refused uncovered 0) ⊎ (c ≡ refused overrun 0))
+    → Between 11 11 m
+    → let n = numberOf (inOrder r b c m) in (n ≡ 0) ⊎ (((1 ≤ n) × (n ≤ 11)) ⊎ (n ≡ 13))
+listed (Verdict.Refused q) b c m hr hb hc hm = inr (inl (omega arith, omega arith))
+listed Verdict.Fine (Verdict.Refused q) c m hr hb hc hm = inr (inl (omega arith, omega arith))
+listed Verdict.Fine Verdict.Fine c m hr hb (inr (inl e)) hm = rw e (inr (inl (omega arith, omega arith)))
+listed Verdict.Fine Verdict.Fine c m hr hb (inr (inr e)) hm = rw e (inr (inr refl))
+listed Verdict.Fine Verdict.Fine c Verdict.Fine hr hb (inl e) hm = rw e (inl refl)
+listed Verdict.Fine Verdict.Fine c (Verdict.Refused q) hr hb (inl e) hm = rw e (inr (inl (omega arith, omega arith)))
 
 -- 0 or above 9: reading and balance were passed
 pub early-passed : (r b c m : Verdict)
@@ -163,13 +178,20 @@ early-passed Verdict.Fine (Verdict.Refused q) c m hr hb (inl e) = absurd (omega 
 early-passed Verdict.Fine (Verdict.Refused q) c m hr hb (inr e) = absurd (omega arith)
 
 -- and the other way
-pub late-number : (c m : Verdict) → Between 10 10 c → Between 11 11 m
+pub late-number : (c m : Verdict) → Between 10 13 c → Between 11 11 m
     → (numberOf (inOrder Verdict.Fine Verdict.Fine c m) ≡ 0) ⊎ (9 < numberOf (inOrder Verdict.Fine Verdict.Fine c m))
 late-number Verdict.Fine Verdict.Fine hc hm = inl refl
 late-number Verdict.Fine (Verdict.Refused q) hc hm = inr (omega arith)
 late-number (Verdict.Refused q) m hc hm = inr (omega arith)
 
--- with the plants passed the number is not 10
-pub not-ten : (m : Verdict) → Between 11 11 m → numberOf (inOrder Verdict.Fine Verdict.Fine Verdict.Fine m) ≡ 10 → ⊥
-not-ten Verdict.Fine hm e = omega arith
-not-ten (Verdict.Refused q) hm e = omega arith
+-- with the plants passed the number is neither 10 nor 13
+pub not-uncovered : (m : Verdict)
+    → Between 11 11 m
+    → (n : ℕ)
+    → numberOf (inOrder Verdict.Fine Verdict.Fine Verdict.Fine m) ≡ n
+    → (n ≡ 10) ⊎ (n ≡ 13)
+    → ⊥
+not-uncovered Verdict.Fine hm n e (inl h) = omega arith
+not-uncovered Verdict.Fine hm n e (inr h) = omega arith
+not-uncovered (Verdict.Refused q) hm n e (inl h) = omega arith
+not-uncovered (Verdict.Refused q) hm n e (inr h) = omega arith

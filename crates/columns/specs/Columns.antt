@@ -17,6 +17,7 @@ columnsOf s c =
       exports = listTo (λ j. boundaryAt s c j .export) (c .boundaries);
       holders = listTo (λ i. plantAt s c i .agent) (c .plants);
       flags = listTo (λ i. plantAt s c i .inflexible) (c .plants);
+      mustRun = listTo (λ i. plantAt s c i .must) (c .plants);
       offers = listTo (λ i. plantAt s c i .price) (c .plants);
       available = listTo (λ i. plantAt s c i .availability) (c .plants);
       sellers = listTo (λ j. contractAt s c j .seller) (c .contracts);

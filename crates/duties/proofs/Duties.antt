@@ -17,7 +17,7 @@ use Rattle.settle.specs.Settled.{Settled}
 use Rattle.settle.proofs.Judged.{settled-unique}
 use Rattle.duties.specs.Result.{agentsOf, contractsOf, retailerIn, generatorIn, generatedIn, PossibleFor, costOf, Passes, Untouched, shareIn, contractedIn, boughtIn, soldIn, moneyIn, scheduleIn, amountIn}
 use Rattle.duties.proofs.Steps.{Hour, number-none, list-possible, list-cheapest, list-balanced, demand-generated, list-shares, list-buyers, list-sellers, list-money}
-use Rattle.duties.proofs.Stages.{number-known, number-tells, refused-leaves, ten-tells, the-hour}
+use Rattle.duties.proofs.Stages.{number-known, number-tells, refused-leaves, impossible-tells, the-hour}
 
 -- For one string of bytes and the same lists at entry there is one outcome.
 pub one-outcome : (bytes : List ℕ) (before x y : Lent) (q r : Summary)
@@ -27,8 +27,8 @@ pub one-outcome : (bytes : List ℕ) (before x y : Lent) (q r : Summary)
 one-outcome = settled-unique
 
 module _ (bytes : List ℕ) (before after : Lent) (r : Summary) (done : Settled bytes before after r) where
-  -- The number returned is 0, or one of the fixed list: 1 to 11.
-  pub number-listed : (r .number ≡ 0) ⊎ ((1 ≤ r .number) × (r .number ≤ 11))
+  -- The number returned is 0, or one of the fixed list: 1 to 11, or 13.
+  pub number-listed : (r .number ≡ 0) ⊎ (((1 ≤ r .number) × (r .number ≤ 11)) ⊎ (r .number ≡ 13))
   number-listed = number-known bytes done
 
   -- The bytes pass refusals 1 to 9 exactly if the number returned is 0 or above 9.
@@ -41,12 +41,13 @@ module _ (bytes : List ℕ) (before after : Lent) (r : Summary) (done : Settled 
 
   -- FOR EVERY SHEET THAT PASSES REFUSALS 1 TO 9:
   module _ (passes : Passes bytes) where
-    -- 1. Refusal 10 is given exactly if no schedule is possible for the hour's demand.
-    pub ten-exactly : (r .number ≡ 10) ↔ ((q : ℕ → ℕ) → PossibleFor bytes (hourDemand (hourOf bytes)) q → ⊥)
-    ten-exactly = ten-tells bytes done passes
+    -- 1. Refusal 10 or 13 is given exactly if no schedule is possible for the hour's demand.
+    pub ten-or-thirteen-exactly : ((r .number ≡ 10) ⊎ (r .number ≡ 13))
+        ↔ ((q : ℕ → ℕ) → PossibleFor bytes (hourDemand (hourOf bytes)) q → ⊥)
+    ten-or-thirteen-exactly = impossible-tells bytes done passes
 
     -- OTHERWISE, GIVEN ROOM:
-    module _ (room : Roomy (hourOf bytes) before) (otherwise : r .number ≡ 10 → ⊥) where
+    module _ (room : Roomy (hourOf bytes) before) (otherwise : (r .number ≡ 10) ⊎ (r .number ≡ 13) → ⊥) where
       hour : Hour bytes before after r
       hour = the-hour bytes done passes room otherwise
 

@@ -1,35 +1,34 @@
 -- Which way a settlement went, by the number it returns. Assumes nothing.
 use Prim.Native.Nat.{ℕ, _≤_, _<_}
 use native.Mathlib.Omega.{arith}
-use native.Mathlib.Decide.{decLt}
 use mathlib.Core.List.{List}
-use mathlib.Core.Logic.{_↔_, _⊎_}
+use mathlib.Core.Logic.{_↔_, _⊎_, inl, inr}
 use mathlib.Core.Path.{_≡_, refl, ap, _∙_, sym}
 use lib.IntN.{pos}
 use Rattle.sums.specs.Sums.{sum}
 use Rattle.sums.specs.Lists.{at}
 use Rattle.sums.proofs.Fill.{filled-count, filled-same}
-use Rattle.refusals.specs.Refusals.{uncovered, refused, cells, numberOf}
+use Rattle.refusals.specs.Refusals.{refused, cells, numberOf}
 use Rattle.refusals.specs.declared.Verdict.{Verdict}
 use Rattle.sheet.specs.Reading.{readVerdict}
 use Rattle.columns.specs.Columns.{hourOf}
 use Rattle.hour.specs.Balance.{hourDemand}
 use Rattle.hour.specs.Answer.{Lent, Roomy, balanceVerdict, coverVerdict, roomVerdict}
 use Rattle.hour.specs.declared.Summary.{Summary}
-use Rattle.hour.proofs.Verdicts.{cover-fine, cover-10, room-fine}
+use Rattle.hour.proofs.Verdicts.{Uncovered, cover-told, room-fine}
 use Rattle.hour.proofs.Balance.{refused-exactly}
 use Rattle.settle.specs.Settled.{verdictOf, Settled}
 use Rattle.duties.specs.Result.{plantsOf, PossibleFor, Passes, Untouched}
-use Rattle.columns.proofs.Numbers.{read-between, balance-between, cover-between, room-between, inOrder, listed, early-passed, late-number, not-ten}
-use Rattle.duties.proofs.Steps.{verdict-is, number-is, Hour}
+use Rattle.columns.proofs.Numbers.{read-between, balance-between, cover-between, room-between, inOrder, listed, early-passed, late-number, not-uncovered}
+use Rattle.duties.proofs.Steps.{verdict-is, number-is, passes-sound, Hour}
 
 module _ (bytes : List ℕ) {before after : Lent} {r : Summary} (done : Settled bytes before after r) where
-  pub number-known : (r .number ≡ 0) ⊎ ((1 ≤ r .number) × (r .number ≤ 11))
+  pub number-known : (r .number ≡ 0) ⊎ (((1 ≤ r .number) × (r .number ≤ 11)) ⊎ (r .number ≡ 13))
   number-known =
       rw (number-is bytes before after r done)
       (listed (readVerdict bytes) (balanceVerdict (hourOf bytes)) (coverVerdict (hourOf bytes))
       (roomVerdict (hourOf bytes) before)
-      (read-between bytes) (balance-between (hourOf bytes)) (cover-between (hourOf bytes))
+      (read-between bytes) (balance-between (hourOf bytes)) (cover-told (hourOf bytes))
       (room-between (hourOf bytes) before))
 
   number-passes : (r .number ≡ 0) ⊎ (9 < r .number) → Passes bytes
@@ -73,35 +72,40 @@ module _ (bytes : List ℕ) {before after : Lent} {r : Summary} (done : Settled 
         (inOrder Verdict.Fine Verdict.Fine (coverVerdict (hourOf bytes)) (roomVerdict (hourOf bytes) before))
     late = rw (passes .read, passes .balance) at (number-is bytes before after r done)
 
-    -- the plants fall short, and 10 is returned; or they do not, and another number is
-    ten : sum (plantsOf bytes) (at (hourOf bytes .available)) < hourDemand (hourOf bytes) → r .number ≡ 10
-    ten l = late ∙ rw (cover-10 (hourOf bytes) l)
+    -- the number that the plants alone are refused with is the one returned
+    told : (n : ℕ) → coverVerdict (hourOf bytes) ≡ refused n 0 → r .number ≡ n
+    told n e = late ∙ rw e
 
-    other : hourDemand (hourOf bytes) ≤ sum (plantsOf bytes) (at (hourOf bytes .available)) → r .number ≡ 10 → ⊥
-    other l e =
-        not-ten (roomVerdict (hourOf bytes) before) (room-between (hourOf bytes) before)
-        (sym (rw (cover-fine (hourOf bytes) l) at late) ∙ e)
+    -- with no refusal of the plants another number is returned
+    other : coverVerdict (hourOf bytes) ≡ Verdict.Fine → (r .number ≡ 10) ⊎ (r .number ≡ 13) → ⊥
+    other e =
+        not-uncovered (roomVerdict (hourOf bytes) before) (room-between (hourOf bytes) before) (r .number)
+        (sym (rw e at late))
 
-    pub ten-tells : (r .number ≡ 10) ↔ ((q : ℕ → ℕ) → PossibleFor bytes (hourDemand (hourOf bytes)) q → ⊥)
-    ten-tells = (
-      λ e. refused-exactly (hourOf bytes) .0 (short e (decLt _ _)),
-      λ h. late ∙ rw (refused-exactly (hourOf bytes) .1 h),
-    )
+    told-uncovered : Uncovered (hourOf bytes) → (r .number ≡ 10) ⊎ (r .number ≡ 13)
+    told-uncovered (inl e) = inl (told 10 e)
+    told-uncovered (inr e) = inr (told 13 e)
+
+    pub impossible-tells : ((r .number ≡ 10) ⊎ (r .number ≡ 13))
+        ↔ ((q : ℕ → ℕ) → PossibleFor bytes (hourDemand (hourOf bytes)) q → ⊥)
+    impossible-tells =
+        let none = refused-exactly (hourOf bytes) (passes-sound bytes passes) in
+        (λ h. none .0 (turned h (cover-told (hourOf bytes))), λ h. told-uncovered (none .1 h))
       where
-        short : r .number ≡ 10
-            → Dec (sum (plantsOf bytes) (at (hourOf bytes .available)) < hourDemand (hourOf bytes))
-            → coverVerdict (hourOf bytes) ≡ refused uncovered 0
-        short e (yes l) = cover-10 (hourOf bytes) l
-        short e (no l) = absurd (other (omega arith) e)
+        turned : (r .number ≡ 10) ⊎ (r .number ≡ 13)
+            → (coverVerdict (hourOf bytes) ≡ Verdict.Fine) ⊎ Uncovered (hourOf bytes)
+            → Uncovered (hourOf bytes)
+        turned h (inl e) = absurd (other e h)
+        turned h (inr u) = u
 
-    module _ (room : Roomy (hourOf bytes) before) (otherwise : r .number ≡ 10 → ⊥) where
+    module _ (room : Roomy (hourOf bytes) before) (otherwise : (r .number ≡ 10) ⊎ (r .number ≡ 13) → ⊥) where
       covers : coverVerdict (hourOf bytes) ≡ Verdict.Fine
-      covers = go (decLt _ _)
+      covers = go (cover-told (hourOf bytes))
         where
-          go : Dec (sum (plantsOf bytes) (at (hourOf bytes .available)) < hourDemand (hourOf bytes))
+          go : (coverVerdict (hourOf bytes) ≡ Verdict.Fine) ⊎ Uncovered (hourOf bytes)
               → coverVerdict (hourOf bytes) ≡ Verdict.Fine
-          go (yes l) = absurd (otherwise (ten l))
-          go (no l) = cover-fine (hourOf bytes) (omega arith)
+          go (inl e) = e
+          go (inr u) = absurd (otherwise (told-uncovered u))
 
       pub the-hour : Hour bytes before after r
       the-hour =

@@ -1,6 +1,6 @@
 -- From the promise of `settle` to the laws of the hour: the number returned is that of the first refusal, and where there is none
 -- each cell of the lent lists is the hour's. Assumes nothing.
-use Prim.Native.Nat.{ℕ, _+_, _*_, _≤_, _<_, zero-le}
+use Prim.Native.Nat.{ℕ, _+_, _*_, _≤_, _<_}
 use native.Mathlib.Omega.{arith}
 use mathlib.Core.Bool.{Bool}
 use mathlib.Core.List.{List}
@@ -36,7 +36,7 @@ summary-number Verdict.Fine s = refl
 summary-number (Verdict.Refused q) s = refl
 
 -- a sheet that passes is sound
-passes-sound : (bytes : List ℕ) → Passes bytes → Sound (hourOf bytes)
+pub passes-sound : (bytes : List ℕ) → Passes bytes → Sound (hourOf bytes)
 unfolding readOf hourOf
 passes-sound bytes p = sound bytes (countsOf bytes) (rw (p .read))
 
@@ -108,9 +108,9 @@ module _ {bytes : List ℕ} {before after : Lent} {r : Summary} (h : Hour bytes 
 
   pub list-possible : PossibleFor bytes (r .demand) (scheduleIn after)
   list-possible =
-      let p = schedule-possible (hourOf bytes) (h .cover) in
+      let p = schedule-possible (hourOf bytes) sheet-sound (h .cover) in
       record {
-        enough = λ i l. zero-le;
+        enough = λ i l. omega (arith, schedule-at i l, p .enough i l);
         within = λ i l. omega (arith, schedule-at i l, p .within i l);
         meets =
             sum-eq (plantsOf bytes) (scheduleIn after) (scheduled (hourOf bytes)) schedule-at ∙ p .meets
@@ -125,7 +125,7 @@ module _ {bytes : List ℕ} {before after : Lent} {r : Summary} (h : Hour bytes 
         arith,
         sum-eq (plantsOf bytes) (λ i. offer i * scheduleIn after i) (λ i. offer i * scheduled (hourOf bytes) i)
             (λ i l. ap (λ (x : ℕ). offer i * x) (schedule-at i l)),
-        schedule-cheapest (hourOf bytes) (h .cover) q
+        schedule-cheapest (hourOf bytes) sheet-sound (h .cover) q
             (record { enough = p .enough; within = p .within; meets = p .meets ∙ demand-is }),
       )
 

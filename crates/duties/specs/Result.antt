@@ -7,7 +7,7 @@ use lib.IntN.{ℤ, pos}
 use lib.ListN.{getD}
 use Rattle.sums.specs.Lists.{at}
 use Rattle.refusals.specs.declared.Verdict.{Verdict}
-use Rattle.merit.specs.Merit.{Possible, none, cost}
+use Rattle.merit.specs.Merit.{Possible, cost}
 use Rattle.sheet.specs.Reading.{readVerdict}
 use Rattle.columns.specs.Columns.{hourOf}
 use Rattle.hour.specs.Sheet.{agents, plants, contracts, retails}
@@ -36,9 +36,9 @@ generatorIn bytes a = not (retails (hourOf bytes) a)
 abbrev pub generatedIn : List ℕ → ℕ
 generatedIn bytes = generated (hourOf bytes)
 
--- A schedule is possible if each plant has a whole number of kWh from zero to its availability and they sum to the demand d
+-- A schedule is possible if each plant has a whole number of kWh from its must-run to its availability and they sum to the demand d
 abbrev pub PossibleFor : List ℕ → (d : ℕ) → (ℕ → ℕ) → Type 0
-PossibleFor bytes d q = Possible none (at (hourOf bytes .available)) (plantsOf bytes) d q
+PossibleFor bytes d q = Possible (at (hourOf bytes .mustRun)) (at (hourOf bytes .available)) (plantsOf bytes) d q
 
 -- what a schedule costs at the offer prices
 abbrev pub costOf : List ℕ → (ℕ → ℕ) → ℕ

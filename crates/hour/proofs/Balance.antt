@@ -3,7 +3,7 @@ use Prim.Native.Nat.{ℕ, _+_, _-_, _≤_, _<_}
 use native.Mathlib.Omega.{arith}
 use native.Mathlib.Decide.{decLt}
 use mathlib.Core.Bool.{Bool, true, false, not, cond, false≢true}
-use mathlib.Core.Logic.{_↔_}
+use mathlib.Core.Logic.{_↔_, _⊎_, inl, inr}
 use mathlib.Core.Path.{_≡_, refl, ap, _∙_, sym}
 use lib.IntN.{pos}
 use Rattle.sums.specs.Sums.{sum, pick, keyed}
@@ -11,10 +11,9 @@ use Rattle.sums.specs.Lists.{at}
 use Rattle.sums.proofs.Sums.{sum-eq, sum-add}
 use Rattle.sums.proofs.Picks.{pick-false}
 use Rattle.sums.proofs.Keyed.{keyed-absent, keyed-total}
-use Rattle.refusals.specs.Refusals.{uncovered, refused}
 use Rattle.refusals.specs.declared.Verdict.{Verdict}
-use Rattle.merit.specs.Merit.{Possible, none, cost}
-use Rattle.merit.proofs.LeastCost.{schedule-least, none-possible}
+use Rattle.merit.specs.Merit.{Possible, cost}
+use Rattle.merit.proofs.MustRun.{ideal-possible, ideal-least, ideal-none}
 use Rattle.hour.specs.Sheet.{Sheet, agents, plants, contracts, retails}
 use Rattle.hour.specs.Sound.{Sound}
 use Rattle.hour.specs.Balance.{imported, exported, consumption, ownImport, commercial, hourDemand}
@@ -22,40 +21,57 @@ use Rattle.hour.specs.Lines.{scheduled, bolsaPrice, amount, own, contrac
 use Rattle.hour.specs.Signed.{signedSum}
 use Rattle.hour.specs.Answer.{coverVerdict}
 use Rattle.refusals.proofs.Fine.{not-fine}
-use Rattle.hour.proofs.Verdicts.{covered, cover-fine, cover-10}
+use Rattle.hour.proofs.Verdicts.{covered, cover-fine, Uncovered, cover-told}
 use Rattle.hour.proofs.Demand.{generator-share}
 use Rattle.hour.proofs.Money.{money-sum, money-even}
 
--- ---- refusal 10, and the schedule
-module _ (s : Sheet) where
-  -- what the plants can deliver in the hour
+-- ---- refusals 10 and 13, and the schedule
+module _ (s : Sheet) (ok : Sound s) where
+  -- what the plants can deliver in the hour: each from its must-run to its availability
   abbrev pub CanDeliver : (ℕ → ℕ) → Type 0
-  CanDeliver q = Possible none (at (s .available)) (plants s) (hourDemand s) q
+  CanDeliver q = Possible (at (s .mustRun)) (at (s .available)) (plants s) (hourDemand s) q
 
-  -- refusal 10 is given exactly if no schedule is possible
-  pub refused-exactly : (coverVerdict s ≡ refused uncovered 0) ↔ ((q : ℕ → ℕ) → CanDeliver q → ⊥)
-  refused-exactly =
-      (λ e. none-possible a n d .0 (short e (decLt (sum n a) d)), λ h. cover-10 s (none-possible a n d .1 h))
+  runs-within : (i : ℕ) → i < plants s → at (s .mustRun) i ≤ at (s .available) i
+  runs-within i l = ok .plant i l .mustRun
+
+  -- refusal 10 or 13 is given exactly if no schedule is possible
+  pub refused-exactly : Uncovered s ↔ ((q : ℕ → ℕ) → CanDeliver q → ⊥)
+  refused-exactly = (λ h. none .0 (outside h (decLt a d) (decLt d m)), λ h. told (none .1 h) (cover-told s))
     where
-      a : ℕ → ℕ
-      a = at (s .available)
+      a : ℕ
+      a = sum (plants s) (at (s .available))
 
-      n : ℕ
-      n = plants s
+      m : ℕ
+      m = sum (plants s) (at (s .mustRun))
 
       d : ℕ
       d = hourDemand s
 
-      short : coverVerdict s ≡ refused uncovered 0 → Dec (sum n a < d) → sum n a < d
-      short e (yes l) = l
-      short e (no l) = not-fine _ (sym e ∙ cover-fine s (omega arith))
+      none : ((a < d) ⊎ (d < m)) ↔ ((q : ℕ → ℕ) → CanDeliver q → ⊥)
+      none = ideal-none (at (s .offers)) (at (s .mustRun)) (at (s .available)) (plants s) d runs-within
+
+      fine : coverVerdict s ≡ Verdict.Fine → Uncovered s → ⊥
+      fine e (inl h) = not-fine _ (sym h ∙ e)
+      fine e (inr h) = not-fine _ (sym h ∙ e)
+
+      outside : Uncovered s → Dec (a < d) → Dec (d < m) → (a < d) ⊎ (d < m)
+      outside h (yes l) r = inl l
+      outside h (no l) (yes r) = inr r
+      outside h (no l) (no r) = absurd (fine (cover-fine s (omega arith) (omega arith)) h)
+
+      told : (a < d) ⊎ (d < m) → (coverVerdict s ≡ Verdict.Fine) ⊎ Uncovered s → Uncovered s
+      told h (inr u) = u
+      told (inl h) (inl e) = absurd (omega (arith, covered s e .enough))
+      told (inr h) (inl e) = absurd (omega (arith, covered s e .runs))
 
   module _ (fine : coverVerdict s ≡ Verdict.Fine) where
     -- the schedule is possible
     pub schedule-possible : CanDeliver (scheduled s)
     unfolding scheduled
     schedule-possible =
-        schedule-least (at (s .offers)) (at (s .available)) (plants s) (hourDemand s) (covered s fine) .0
+        let c = covered s fine in
+        ideal-possible (at (s .offers)) (at (s .mustRun)) (at (s .available)) (plants s) (hourDemand s) runs-within
+        (c .runs) (c .enough)
 
     -- no possible schedule costs less at the offer prices
     pub schedule-cheapest : (q : ℕ → ℕ)
@@ -63,7 +79,9 @@ module _ (s : Sheet) where
         → cost (at (s .offers)) (plants s) (scheduled s) ≤ cost (at (s .offers)) (plants s) q
     unfolding scheduled
     schedule-cheapest =
-        schedule-least (at (s .offers)) (at (s .available)) (plants s) (hourDemand s) (covered s fine) .1
+        let c = covered s fine in
+        ideal-least (at (s .offers)) (at (s .mustRun)) (at (s .available)) (plants s) (hourDemand s) runs-within
+        (c .runs) (c .enough)
 
 -- ---- rows of one kind of agent: an agent of the other kind has none
 keyed-kind : (t : ℕ → Bool) (key v : ℕ → ℕ) (m : ℕ) (b : Bool)
@@ -182,7 +200,7 @@ module _ (s : Sheet) (ok : Sound s) where
   module _ (fine : coverVerdict s ≡ Verdict.Fine) where
     -- the schedules sum to the hour's demand
     pub schedule-met : sum (plants s) (scheduled s) ≡ hourDemand s
-    schedule-met = schedule-possible s fine .meets
+    schedule-met = schedule-possible s ok fine .meets
 
     -- the kWh bought over all agents equal the kWh sold
     pub bought-sold : sum (agents s) (bought s) ≡ sum (agents s) (sold s)

@@ -9,7 +9,7 @@ use Rattle.sums.specs.Lists.{at}
 use Rattle.sums.proofs.Sums.{sum-le, sum-most}
 use Rattle.sums.proofs.Picks.{pick-le}
 use Rattle.sums.proofs.Keyed.{keyed-most, keyed-total}
-use Rattle.merit.proofs.Schedule.{schedule-within}
+use Rattle.merit.proofs.MustRun.{ideal-within}
 use Rattle.merit.proofs.Price.{price-most}
 use Rattle.hour.specs.Sheet.{Sheet, agents, boundaries, plants, retails}
 use Rattle.hour.specs.Sound.{Sound}
@@ -92,7 +92,8 @@ module _ (s : Sheet) where
     scheduled-le i l =
         omega (
           arith,
-          schedule-within (at (s .offers)) (at (s .available)) (plants s) (hourDemand s) i,
+          ideal-within (at (s .offers)) (at (s .mustRun)) (at (s .available)) (plants s) (hourDemand s)
+              (λ j m. ok .plant j m .mustRun) i l,
           ok .plant i l .available,
         )
 

@@ -9,7 +9,7 @@ use Rattle.sums.specs.Sums.{sum, peak, pick, keyed, stop, first}
 use Rattle.sums.specs.Lists.{total, listTo}
 use Rattle.refusals.specs.Refusals.{numberOf}
 use Rattle.share.specs.Share.{leftOver, goesBefore, rankOf, shareOf}
-use Rattle.merit.specs.Merit.{before, ahead, schedule, hourPrice}
+use Rattle.merit.specs.Merit.{before, ahead, schedule, idealDispatch, hourPrice}
 use Rattle.deals.specs.Deals.{stands, aheadOf, firmAt, restOf, cheaperOf, groupOf, demandedAt, amountAt, amountsOf}
 use Rattle.deals.specs.Hour.{ownTo, ownCount, ownOf, hourAmount}
 use Rattle.hour.specs.Sheet.{Sheet, agents, plants, contracts, retails}
@@ -17,7 +17,7 @@ use Rattle.hour.specs.Balance.{referred, imported, exported, consumption
 use Rattle.hour.specs.Lines.{scheduled, bolsaPrice, amount, own, contracted, bought, sold, moneyOf, money, cellsPerAgent, cellOf, figure}
 use Rattle.hour.specs.Answer.{Lent, firstOver, balanceVerdict, coverVerdict, roomVerdict, hourVerdict}
 
--- what is asked: a referral, a sharing, or of a sheet its first refusal of 7 to 11 (0 with none) where each lent list has so many
+-- what is asked: a referral, a sharing, or of a sheet its first refusal of 7 to 11 and 13 (0 with none) where each lent list has so many
 -- cells, its amounts, what agent a sells,
 -- its price and schedule, its first line with the agents' figures, its money
 pub data Ask : Type 0 where
@@ -32,7 +32,12 @@ pub data Ask : Type 0 where
 
 abbrev lists : (room : ℕ) → Lent
 lists n =
-    record { figures = listTo (λ k. 0) n; money = listTo (λ k. pos 0) n; schedule = listTo (λ k. 0) n; amounts = listTo (λ k. 0) n }
+    record {
+      figures = listTo (λ k. 0) n;
+      money = listTo (λ k. pos 0) n;
+      schedule = listTo (λ k. 0) n;
+      amounts = listTo (λ k. 0) n;
+    }
 
 unfoldable pub answer : Ask → List ℤ
 answer (referralOf x f) = pos (referred x f) ∷ []
@@ -41,7 +46,8 @@ answer (refusalOf room s) = pos (numberOf (hourVerdict s (lists room))) ∷ []
 answer (amountsIn s) = listTo (λ j. pos (amount s j)) (contracts s)
 answer (soldBy s a) = pos (sold s a) ∷ []
 answer (scheduleOf s) = pos (bolsaPrice s) ∷ listTo (λ i. pos (scheduled s i)) (plants s)
-answer (linesOf s) = pos (bolsaPrice s) ∷ pos (hourDemand s) ∷ pos (losses s) ∷ listTo (λ k. pos (figure s k)) (cellsPerAgent * agents s)
+answer (linesOf s) = pos (bolsaPrice s) ∷ pos (hourDemand s) ∷ pos (losses s)
+    ∷ listTo (λ k. pos (figure s k)) (cellsPerAgent * agents s)
 answer (moneyIn s) = listTo (money s) (agents s)
 
 pub record Case : Type 0 where
@@ -52,8 +58,11 @@ abbrev asked : Ask → List ℕ → Case
 asked q l = record { ask = q; due = map pos l }
 
 -- retailer 0 takes r, generator 1 delivers g and takes o; all plants and contracts are the generator's
-abbrev pairOf : (delivers takes own : ℕ) → (flags offers available : List ℕ) → (kinds prices quantities : List ℕ) → Sheet
-pairOf g r o flags offers available ks ps qs =
+abbrev pairOf : (delivers takes own : ℕ)
+    → (flags musts offers available : List ℕ)
+    → (kinds prices quantities : List ℕ)
+    → Sheet
+pairOf g r o flags musts offers available ks ps qs =
     record {
       kinds = 1 ∷ 2 ∷ [];
       owners = 0 ∷ 1 ∷ [];
@@ -62,6 +71,7 @@ pairOf g r o flags offers available ks ps qs =
       exports = 0 ∷ g ∷ [];
       holders = map (λ (x : ℕ). 1) offers;
       flags = flags;
+      mustRun = musts;
       offers = offers;
       available = available;
       sellers = map (λ (x : ℕ). 1) ks;
@@ -70,10 +80,10 @@ pairOf g r o flags offers available ks ps qs =
 
 -- with no losses the reading is the demand
 abbrev contractsOf : ℕ → (kinds prices quantities : List ℕ) → Sheet
-contractsOf d ks ps qs = pairOf d d 0 (0 ∷ []) (1 ∷ []) (d ∷ []) ks ps qs
+contractsOf d ks ps qs = pairOf d d 0 (0 ∷ []) (0 ∷ []) (1 ∷ []) (d ∷ []) ks ps qs
 
-abbrev plantsOf : ℕ → (flags offers available : List ℕ) → Sheet
-plantsOf d flags offers available = pairOf d d 0 flags offers available [] [] []
+abbrev plantsOf : ℕ → (flags musts offers available : List ℕ) → Sheet
+plantsOf d flags musts offers available = pairOf d d 0 flags musts offers available [] [] []
 
 -- retailers alone, one boundary row each
 abbrev retailersOf : (takes delivers : List ℕ) → Sheet
@@ -86,6 +96,7 @@ retailersOf takes delivers =
       exports = delivers;
       holders = [];
       flags = [];
+      mustRun = [];
       offers = [];
       available = [];
       sellers = [];
@@ -93,7 +104,7 @@ retailersOf takes delivers =
     }
 
 abbrev ownImporter : Sheet
-ownImporter = pairOf 13 10 3 (0 ∷ []) (7 ∷ []) (13 ∷ []) (1 ∷ []) (5 ∷ []) (4 ∷ [])
+ownImporter = pairOf 13 10 3 (0 ∷ []) (0 ∷ []) (7 ∷ []) (13 ∷ []) (1 ∷ []) (5 ∷ []) (4 ∷ [])
 
 -- 'One hour in full'
 abbrev pub wholeHour : Sheet
@@ -106,6 +117,7 @@ wholeHour =
       exports = 600 ∷ 410 ∷ 0 ∷ 0 ∷ [];
       holders = 0 ∷ 3 ∷ 0 ∷ [];
       flags = 0 ∷ 0 ∷ 1 ∷ [];
+      mustRun = 0 ∷ 0 ∷ 0 ∷ [];
       offers = 5000 ∷ 8000 ∷ 9000 ∷ [];
       available = 700 ∷ 500 ∷ 100 ∷ [];
       sellers = 0 ∷ 3 ∷ 0 ∷ 3 ∷ [];
@@ -136,10 +148,10 @@ cases =
     -- 5
     ∷ asked (amountsIn (contractsOf 0 (3 ∷ []) (1 ∷ []) (5 ∷ []))) (0 ∷ [])
     -- 6: the price, then the schedule
-    ∷ asked (scheduleOf (plantsOf 10 (0 ∷ 0 ∷ []) (7 ∷ 7 ∷ []) (4 ∷ 6 ∷ []))) (7 ∷ 4 ∷ 6 ∷ [])
-    ∷ asked (scheduleOf (plantsOf 0 (0 ∷ 0 ∷ []) (7 ∷ 7 ∷ []) (4 ∷ 6 ∷ []))) (0 ∷ 0 ∷ 0 ∷ [])
+    ∷ asked (scheduleOf (plantsOf 10 (0 ∷ 0 ∷ []) (0 ∷ 0 ∷ []) (7 ∷ 7 ∷ []) (4 ∷ 6 ∷ []))) (7 ∷ 4 ∷ 6 ∷ [])
+    ∷ asked (scheduleOf (plantsOf 0 (0 ∷ 0 ∷ []) (0 ∷ 0 ∷ []) (7 ∷ 7 ∷ []) (4 ∷ 6 ∷ []))) (0 ∷ 0 ∷ 0 ∷ [])
     -- 7
-    ∷ asked (scheduleOf (plantsOf 5 (1 ∷ 0 ∷ []) (3 ∷ 9 ∷ []) (5 ∷ 5 ∷ []))) (0 ∷ 5 ∷ 0 ∷ [])
+    ∷ asked (scheduleOf (plantsOf 5 (1 ∷ 0 ∷ []) (0 ∷ 0 ∷ []) (3 ∷ 9 ∷ []) (5 ∷ 5 ∷ []))) (0 ∷ 5 ∷ 0 ∷ [])
     -- 8: settled; price, demand and losses, then loss share, own energy, generator import, contracted, bought and sold an agent
     ∷ asked (refusalOf 24 wholeHour) (0 ∷ [])
     ∷ asked (linesOf wholeHour)
@@ -153,24 +165,33 @@ cases =
     ∷ asked (amountsIn wholeHour) (400 ∷ 88 ∷ 44 ∷ 500 ∷ [])
     ∷ asked (scheduleOf wholeHour) (8000 ∷ 700 ∷ 310 ∷ 0 ∷ [])
     -- 10
-    ∷ asked (refusalOf 12 (pairOf 100 0 0 [] [] [] [] [] [])) (9 ∷ [])
-    ∷ asked (refusalOf 12 (pairOf 0 100 0 [] [] [] [] [] [])) (8 ∷ [])
+    ∷ asked (refusalOf 12 (pairOf 100 0 0 [] [] [] [] [] [] [])) (9 ∷ [])
+    ∷ asked (refusalOf 12 (pairOf 0 100 0 [] [] [] [] [] [] [])) (8 ∷ [])
     -- 11
-    ∷ asked (refusalOf 12 (pairOf 100 90 0 (0 ∷ []) (1 ∷ []) (99 ∷ []) [] [] [])) (10 ∷ [])
-    ∷ asked (refusalOf 12 (pairOf 100 90 0 (0 ∷ []) (1 ∷ []) (100 ∷ []) [] [] [])) (0 ∷ [])
+    ∷ asked (refusalOf 12 (pairOf 100 90 0 (0 ∷ []) (0 ∷ []) (1 ∷ []) (99 ∷ []) [] [] [])) (10 ∷ [])
+    ∷ asked (refusalOf 12 (pairOf 100 90 0 (0 ∷ []) (0 ∷ []) (1 ∷ []) (100 ∷ []) [] [] [])) (0 ∷ [])
     -- two refusals fit, and the one that comes first is given: 7 with 8, 7 with 9, 8 with 10, 10 with 11
     ∷ asked (refusalOf 12 (retailersOf (0 ∷ 100 ∷ []) (10 ∷ 0 ∷ []))) (7 ∷ [])
     ∷ asked (refusalOf 12 (retailersOf (0 ∷ 0 ∷ []) (0 ∷ 10 ∷ []))) (7 ∷ [])
-    ∷ asked (refusalOf 12 (pairOf 100 101 0 (0 ∷ []) (1 ∷ []) (99 ∷ []) [] [] [])) (8 ∷ [])
-    ∷ asked (refusalOf 11 (pairOf 100 90 0 (0 ∷ []) (1 ∷ []) (99 ∷ []) [] [] [])) (10 ∷ [])
-    ∷ asked (refusalOf 11 (pairOf 100 90 0 (0 ∷ []) (1 ∷ []) (100 ∷ []) [] [] [])) (11 ∷ [])
+    ∷ asked (refusalOf 12 (pairOf 100 101 0 (0 ∷ []) (0 ∷ []) (1 ∷ []) (99 ∷ []) [] [] [])) (8 ∷ [])
+    ∷ asked (refusalOf 11 (pairOf 100 90 0 (0 ∷ []) (0 ∷ []) (1 ∷ []) (99 ∷ []) [] [] [])) (10 ∷ [])
+    ∷ asked (refusalOf 11 (pairOf 100 90 0 (0 ∷ []) (0 ∷ []) (1 ∷ []) (100 ∷ []) [] [] [])) (11 ∷ [])
     -- a generator may take more than it gives: 7 speaks of retailers
-    ∷ asked (refusalOf 12 (pairOf 3 0 5 [] [] [] [] [] [])) (8 ∷ [])
+    ∷ asked (refusalOf 12 (pairOf 3 0 5 [] [] [] [] [] [] [])) (8 ∷ [])
+    -- plants that must run: one dearer than all that is needed runs, and sets no price
+    ∷ asked (scheduleOf (plantsOf 4 (0 ∷ 1 ∷ []) (0 ∷ 2 ∷ []) (3 ∷ 9 ∷ []) (5 ∷ 5 ∷ []))) (3 ∷ 2 ∷ 2 ∷ [])
+    -- must-runs that sum to the demand, and to one more; must-run equal to availability
+    ∷ asked (refusalOf 12 (plantsOf 4 (1 ∷ 1 ∷ []) (1 ∷ 3 ∷ []) (3 ∷ 9 ∷ []) (5 ∷ 5 ∷ []))) (0 ∷ [])
+    ∷ asked (scheduleOf (plantsOf 4 (1 ∷ 1 ∷ []) (1 ∷ 3 ∷ []) (3 ∷ 9 ∷ []) (5 ∷ 5 ∷ []))) (0 ∷ 1 ∷ 3 ∷ [])
+    ∷ asked (refusalOf 12 (plantsOf 4 (1 ∷ 1 ∷ []) (1 ∷ 4 ∷ []) (3 ∷ 9 ∷ []) (5 ∷ 5 ∷ []))) (13 ∷ [])
+    -- 13 is told before 11
+    ∷ asked (refusalOf 11 (plantsOf 4 (1 ∷ 1 ∷ []) (1 ∷ 4 ∷ []) (3 ∷ 9 ∷ []) (5 ∷ 5 ∷ []))) (13 ∷ [])
+    ∷ asked (scheduleOf (plantsOf 7 (1 ∷ 0 ∷ []) (5 ∷ 0 ∷ []) (9 ∷ 3 ∷ []) (5 ∷ 5 ∷ []))) (3 ∷ 5 ∷ 2 ∷ [])
     -- a generator that sells above its contracts buys its own import all the same: 3 bought and 9 sold, not 6 sold
     ∷ asked (linesOf ownImporter) (7 ∷ 13 ∷ 0 ∷ 0 ∷ 10 ∷ 0 ∷ 4 ∷ 6 ∷ 0 ∷ 0 ∷ 13 ∷ 3 ∷ 4 ∷ 3 ∷ 9 ∷ [])
     ∷ record { ask = moneyIn ownImporter; due = negℤ (pos 42) ∷ pos 42 ∷ [] }
     ∷ []
 
 pub cases-hold : map (λ (c : Case). answer (c .ask)) cases ≡ map (λ (c : Case). c .due) cases
-unfolding answer cases sum peak pick keyed stop first total listTo leftOver goesBefore rankOf shareOf before ahead schedule hourPrice stands aheadOf firmAt restOf cheaperOf groupOf demandedAt amountAt amountsOf ownTo ownCount ownOf hourAmount retails referred imported exported consumption consumed ownImport entering leaving losses consumptions lossShare commercial demands hourDemand scheduled bolsaPrice amount own contracted bought sold moneyOf money cellOf figure firstOver balanceVerdict coverVerdict roomVerdict hourVerdict
+unfolding answer cases sum peak pick keyed stop first total listTo leftOver goesBefore rankOf shareOf before ahead schedule idealDispatch hourPrice stands aheadOf firmAt restOf cheaperOf groupOf demandedAt amountAt amountsOf ownTo ownCount ownOf hourAmount retails referred imported exported consumption consumed ownImport entering leaving losses consumptions lossShare commercial demands hourDemand scheduled bolsaPrice amount own contracted bought sold moneyOf money cellOf figure firstOver balanceVerdict coverVerdict roomVerdict hourVerdict
 cases-hold = refl

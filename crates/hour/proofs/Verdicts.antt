@@ -1,6 +1,7 @@
--- Refusals 7 to 11: what each answer says of the sheet, and the answer in each case. Assumes nothing.
+-- Refusals 7 to 10, 13 and 11: what each answer says of the sheet, and the answer in each case. Assumes nothing.
 use Prim.Native.Nat.{ℕ, _*_, _≤_, _<_}
 use native.Mathlib.Omega.{arith}
+use native.Mathlib.Decide.{decLt}
 use mathlib.Core.Bool.{true, false, _&&_, _||_}
 use mathlib.Core.List.{List, [], _∷_}
 use mathlib.Core.Logic.{_⊎_, inl, inr, ⊎-elim}
@@ -12,7 +13,7 @@ use Rattle.sums.specs.Sums.{sum}
 use Rattle.sums.specs.Lists.{at}
 use Rattle.sums.proofs.First.{first-below}
 use Rattle.sums.proofs.Tests.{all-true, or-cases}
-use Rattle.refusals.specs.Refusals.{badExports, badGain, unshared, uncovered, noRoom, refused, refusedUnless}
+use Rattle.refusals.specs.Refusals.{badExports, badGain, unshared, uncovered, overrun, noRoom, refused, refusedUnless}
 use Rattle.refusals.specs.declared.Verdict.{Verdict}
 use Rattle.hour.specs.Sheet.{Sheet, agents, plants, contracts, retails}
 use Rattle.hour.specs.Balance.{imported, exported, consumed, entering, leaving, losses, hourDemand}
@@ -74,18 +75,50 @@ module _ (s : Sheet) where
       unfolding balanceVerdict
       balance-fine h = simp (le-leb _ _ a, le-leb _ _ b, h)
 
-  -- ---- refusal 10
-  pub covered : coverVerdict s ≡ Verdict.Fine → hourDemand s ≤ sum (plants s) (at (s .available))
-  unfolding coverVerdict
-  covered h = leb-true _ _ (fine-test _ uncovered 0 h)
+  -- ---- refusals 10 and 13
+  pub record Covers : Type 0 where
+    pub enough : hourDemand s ≤ sum (plants s) (at (s .available))
+    pub runs : sum (plants s) (at (s .mustRun)) ≤ hourDemand s
 
-  pub cover-fine : hourDemand s ≤ sum (plants s) (at (s .available)) → coverVerdict s ≡ Verdict.Fine
+  pub covered : coverVerdict s ≡ Verdict.Fine → Covers
   unfolding coverVerdict
-  cover-fine h = simp (le-leb _ _ h)
+  covered h =
+      let all =
+      fine-parts (refusedUnless (leb (hourDemand s) (sum (plants s) (at (s .available)))) uncovered 0
+      ∷ refusedUnless (leb (sum (plants s) (at (s .mustRun))) (hourDemand s)) overrun 0 ∷ []) h in
+      record {
+        enough = leb-true _ _ (fine-test _ uncovered 0 (all .0));
+        runs = leb-true _ _ (fine-test _ overrun 0 (all .1 .0));
+      }
 
   pub cover-10 : sum (plants s) (at (s .available)) < hourDemand s → coverVerdict s ≡ refused uncovered 0
   unfolding coverVerdict
   cover-10 h = simp (lt-leb _ _ h)
+
+  module _ (enough : hourDemand s ≤ sum (plants s) (at (s .available))) where
+    pub cover-13 : hourDemand s < sum (plants s) (at (s .mustRun)) → coverVerdict s ≡ refused overrun 0
+    unfolding coverVerdict
+    cover-13 h = simp (le-leb _ _ enough, lt-leb _ _ h)
+
+    pub cover-fine : sum (plants s) (at (s .mustRun)) ≤ hourDemand s → coverVerdict s ≡ Verdict.Fine
+    unfolding coverVerdict
+    cover-fine h = simp (le-leb _ _ enough, le-leb _ _ h)
+
+  -- refused with 10 or with 13
+  abbrev pub Uncovered : Type 0
+  Uncovered = (coverVerdict s ≡ refused uncovered 0) ⊎ (coverVerdict s ≡ refused overrun 0)
+
+  pub cover-told : (coverVerdict s ≡ Verdict.Fine) ⊎ Uncovered
+  cover-told =
+      go (decLt (sum (plants s) (at (s .available))) (hourDemand s))
+      (decLt (hourDemand s) (sum (plants s) (at (s .mustRun))))
+    where
+      go : Dec (sum (plants s) (at (s .available)) < hourDemand s)
+          → Dec (hourDemand s < sum (plants s) (at (s .mustRun)))
+          → (coverVerdict s ≡ Verdict.Fine) ⊎ Uncovered
+      go (yes l) k = inr (inl (cover-10 l))
+      go (no l) (yes k) = inr (inr (cover-13 (omega arith) k))
+      go (no l) (no k) = inl (cover-fine (omega arith) (omega arith))
 
 -- ---- refusal 11
 module _ (s : Sheet) (l : Lent) where

@@ -1,5 +1,5 @@
--- Document 01, 'When the sheet is turned away', of an accepted sheet and the four lent lists: refusals 7 to 11, in this order.
--- Assumes nothing.
+-- Document 01, 'When the sheet is turned away', of an accepted sheet and the four lent lists: refusals 7 to 10, 13 and 11,
+-- in this order. Assumes nothing.
 use Prim.Native.Nat.{ℕ, _*_, _≤_}
 use mathlib.Core.Bool.{_&&_, _||_}
 use mathlib.Core.List.{List, [], _∷_}
@@ -8,7 +8,7 @@ use lib.ListN.{length}
 use lib.Dec.{ltb, leb, eqb}
 use Rattle.sums.specs.Sums.{sum, first}
 use Rattle.sums.specs.Lists.{at}
-use Rattle.refusals.specs.Refusals.{badExports, badGain, unshared, uncovered, noRoom, refusedUnless, firstOf}
+use Rattle.refusals.specs.Refusals.{badExports, badGain, unshared, uncovered, overrun, noRoom, refusedUnless, firstOf}
 use Rattle.refusals.specs.declared.Verdict.{Verdict}
 use Rattle.hour.specs.Sheet.{Sheet, agents, plants, contracts, retails}
 use Rattle.hour.specs.Balance.{imported, exported, consumed, entering, leaving, losses, hourDemand}
@@ -34,9 +34,12 @@ balanceVerdict s =
     ∷ refusedUnless (eqb (losses s) 0 || ltb 0 (consumed s)) unshared 0
     ∷ [])
 
--- refusal 10
+-- refusals 10 and 13: the demand is more than all availabilities, or less than all must-runs
+abbrev pub coverOf : (demand available mustRun : ℕ) → Verdict
+coverOf d a m = firstOf (refusedUnless (leb d a) uncovered 0 ∷ refusedUnless (leb m d) overrun 0 ∷ [])
+
 unfoldable pub coverVerdict : Sheet → Verdict
-coverVerdict s = refusedUnless (leb (hourDemand s) (sum (plants s) (at (s .available)))) uncovered 0
+coverVerdict s = coverOf (hourDemand s) (sum (plants s) (at (s .available))) (sum (plants s) (at (s .mustRun)))
 
 -- refusal 11: the cells of the figures and one money an agent, one cell a plant and a contract
 unfoldable pub roomVerdict : Sheet → Lent → Verdict

@@ -4,14 +4,14 @@ use mathlib.Core.Bool.{cond}
 use lib.IntN.{ℤ, pos, _-ℤ_, _*ℤ_}
 use Rattle.sums.specs.Sums.{keyed}
 use Rattle.sums.specs.Lists.{at}
-use Rattle.merit.specs.Merit.{schedule, hourPrice}
+use Rattle.merit.specs.Merit.{idealDispatch, hourPrice}
 use Rattle.deals.specs.Hour.{hourAmount}
 use Rattle.hour.specs.Sheet.{Sheet, plants, contracts, retails}
 use Rattle.hour.specs.Balance.{ownImport, lossShare, commercial, demands, hourDemand}
 
 -- what plant i is scheduled to deliver
 unfoldable pub scheduled : Sheet → ℕ → ℕ
-scheduled s i = schedule (at (s .offers)) (at (s .available)) (plants s) (hourDemand s) i
+scheduled s i = idealDispatch (at (s .offers)) (at (s .mustRun)) (at (s .available)) (plants s) (hourDemand s) i
 
 unfoldable pub bolsaPrice : Sheet → ℕ
 bolsaPrice s = hourPrice (at (s .offers)) (at (s .flags)) (scheduled s) (plants s)
@@ -26,7 +26,8 @@ own s a = cond (retails s a) (commercial s a) (keyed (at (s .holders)) (schedule
 
 unfoldable pub contracted : Sheet → ℕ → ℕ
 contracted s a =
-    cond (retails s a) (keyed (at (s .deals .buyers)) (amount s) (contracts s) a) (keyed (at (s .sellers)) (amount s) (contracts s) a)
+    cond (retails s a) (keyed (at (s .deals .buyers)) (amount s) (contracts s) a)
+    (keyed (at (s .sellers)) (amount s) (contracts s) a)
 
 -- a retailer buys the demand that contracts don't cover; a generator buys what its schedule falls short of them, and its own
 -- import is added to that
@@ -57,4 +58,6 @@ cellOf f₀ f₁ f₂ f₃ f₄ f₅ (suc (suc (suc (suc zero)))) a = f₄ a
 cellOf f₀ f₁ f₂ f₃ f₄ f₅ (suc (suc (suc (suc (suc c))))) a = f₅ a
 
 unfoldable pub figure : Sheet → ℕ → ℕ
-figure s k = cellOf (lossShare s) (own s) (ownImport s) (contracted s) (bought s) (sold s) (k % cellsPerAgent) (k / cellsPerAgent)
+figure s k =
+    cellOf (lossShare s) (own s) (ownImport s) (contracted s) (bought s) (sold s) (k % cellsPerAgent)
+    (k / cellsPerAgent)

@@ -15,9 +15,10 @@ pub record Sheet : Type 0 where
   pub factors : List ℕ
   pub imports : List ℕ
   pub exports : List ℕ
-  -- plants: agent, inflexible, price, availability
+  -- plants: agent, inflexible, must-run, price, availability
   pub holders : List ℕ
   pub flags : List ℕ
+  pub mustRun : List ℕ
   pub offers : List ℕ
   pub available : List ℕ
   -- contracts: seller, and the columns that its buyer's contracts are worked out from

@@ -20,6 +20,7 @@ pub record Whole (s : Sheet) : Type 0 where
   pub imports : length (s .imports) ≡ boundaries s
   pub exports : length (s .exports) ≡ boundaries s
   pub flags : length (s .flags) ≡ plants s
+  pub mustRun : length (s .mustRun) ≡ plants s
   pub offers : length (s .offers) ≡ plants s
   pub available : length (s .available) ≡ plants s
   pub buyers : length (s .deals .buyers) ≡ contracts s
@@ -40,6 +41,7 @@ pub record PlantSound (s : Sheet) (i : ℕ) : Type 0 where
   pub flag : at (s .flags) i ≤ 1
   pub offer : at (s .offers) i ≤ mostOffer
   pub available : at (s .available) i ≤ mostAvailable
+  pub mustRun : at (s .mustRun) i ≤ at (s .available) i
 
 pub record ContractSound (s : Sheet) (j : ℕ) : Type 0 where
   pub sellerThere : at (s .sellers) j < agents s

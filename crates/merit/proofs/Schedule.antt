@@ -4,7 +4,7 @@ use Prim.Native.Nat.{ℕ, zero, suc, _+_, _-_, _≤_, _<_, min, zero-le}
 use native.Mathlib.Nat.{min-le-left}
 use native.Mathlib.Omega.{arith}
 use native.Mathlib.Decide.{decLt, ℕ-discrete}
-use mathlib.Core.Path.{_≡_, ap, _∙_}
+use mathlib.Core.Path.{_≡_, ap, ap₂, _∙_}
 use lib.Dec.{ltb, eqb}
 use Rattle.sums.specs.Sums.{sum, pick}
 use Rattle.sums.proofs.Sums.{sum-eq, sum-add, sum-zero, sum-term}
@@ -73,6 +73,17 @@ module _ (p a : ℕ → ℕ) (n d : ℕ) where
       go : (i j : ℕ) → i < n → j < n → 0 < min (a i) (d - ahead p a n i) → min (a j) (d - ahead p a n j) < a j → Dec (p j < p i) → p i ≤ p j
       go i j li lj hi hj (yes m) = absurd (omega (arith, ahead-dearer p a n i j li lj m))
       go i j li lj hi hj (no m) = omega arith
+
+-- the schedule rests on nothing but the offers and availabilities of the first n plants
+pub schedule-eq : (p p′ a a′ : ℕ → ℕ) (n d i : ℕ)
+    → i < n
+    → ((j : ℕ) → j < n → p j ≡ p′ j)
+    → ((j : ℕ) → j < n → a j ≡ a′ j)
+    → schedule p a n d i ≡ schedule p′ a′ n d i
+unfolding schedule ahead
+schedule-eq p p′ a a′ n d i l g h =
+    ap₂ (λ (u v : ℕ). min u (d - v)) (h i l)
+    (sum-eq n _ _ (λ j k. rw (g j k, g i l, h j k)))
 
 -- ---- by a marginal price
 module _ (y m v left : ℕ) where

@@ -1,6 +1,7 @@
--- Document 01, 'Ideal dispatch and price' (Annex A-4), and duty 3, with no order of work in it.
--- Plant i of n has the offer price `p i`, the availability `a i`, and is inflexible where `t i` is not 0. Assumes nothing.
-use Prim.Native.Nat.{ℕ, _-_, _*_, _≤_, _<_, min}
+-- Document 01, 'Ideal dispatch and price' (Annex A-4), with plants that must run, and duty 3, with no order of work in it.
+-- Plant i of n has the offer price `p i`, the must-run `m i`, the availability `a i`, and is inflexible where `t i` is not 0.
+-- Assumes nothing.
+use Prim.Native.Nat.{ℕ, _+_, _-_, _*_, _≤_, _<_, min}
 use mathlib.Core.Bool.{Bool, _&&_, _||_}
 use mathlib.Core.Path.{_≡_}
 use lib.Dec.{ltb, eqb}
@@ -14,9 +15,14 @@ before y x j i = ltb y x || (eqb y x && ltb j i)
 unfoldable pub ahead : (p a : ℕ → ℕ) → (n i : ℕ) → ℕ
 ahead p a n i = sum n (λ j. pick (before (p j) (p i) j i) (a j))
 
--- what plant i is scheduled to deliver of the demand d: up to its availability, until the demand is met
+-- the fill: what plant i is given of the demand d by the price order, up to its availability, until the demand is met
 unfoldable pub schedule : (p a : ℕ → ℕ) → (n d i : ℕ) → ℕ
 schedule p a n d i = min (a i) (d - ahead p a n i)
+
+-- what plant i is scheduled to deliver: its must-run first; the rest of the demand then follows the price order, up to each
+-- availability
+unfoldable pub idealDispatch : (p m a : ℕ → ℕ) → (n d i : ℕ) → ℕ
+idealDispatch p m a n d i = m i + schedule p (λ j. a j - m j) n (d - sum n m) i
 
 -- the bolsa price: the highest offer of a flexible plant scheduled above 0 kWh; with none, 0
 unfoldable pub hourPrice : (p t q : ℕ → ℕ) → ℕ → ℕ
@@ -30,7 +36,7 @@ pub record Possible (least a : ℕ → ℕ) (n d : ℕ) (q : ℕ → ℕ) : Type
   pub within : (i : ℕ) → i < n → q i ≤ a i
   pub meets : sum n q ≡ d
 
--- in the base the least amount of every plant is 0
+-- the fill by itself asks no least amount of a plant
 abbrev pub none : ℕ → ℕ
 none i = 0
 

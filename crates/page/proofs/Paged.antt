@@ -85,7 +85,7 @@ told-all bytes =
     (told 1 6 (readVerdict bytes) (omega arith) (read-between bytes))
     (told-or (balanceVerdict h) (orElse (coverVerdict h) Verdict.Fine)
     (told 7 9 (balanceVerdict h) (omega arith) (balance-between h))
-    (told-or (coverVerdict h) Verdict.Fine (told 10 10 (coverVerdict h) (omega arith) (cover-between h))
+    (told-or (coverVerdict h) Verdict.Fine (told 10 13 (coverVerdict h) (omega arith) (cover-between h))
     (λ q e z. let no : _≡_ {A = ℕ} 0 1 = cc in omega arith)))
 
 -- a sheet that reading refuses

@@ -50,6 +50,10 @@ noRoom = 11
 abbrev pub notThere : ℕ
 notThere = 12
 
+-- 13: must-runs sum to more than the hour's demand
+abbrev pub overrun : ℕ
+overrun = 13
+
 abbrev pub refusal : ℕ → ℕ → Refusal
 refusal number place = record { number = number; place = place }
 

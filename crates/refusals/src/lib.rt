@@ -1,4 +1,4 @@
-// Why a sheet, a list or a question is turned away: the twelve numbers, and the answer of a check.
+// Why a sheet, a list or a question is turned away: the thirteen numbers, and the answer of a check.
 ghost use mathlib.Core.Path.{_≡_};
 ghost use Rattle.refusals.specs.Refusals.{refused};
 
@@ -32,6 +32,8 @@ impl Refusal {
     pub const ROOM: u32 = 11;
 
     pub const ASKED: u32 = 12;
+
+    pub const OVERRUN: u32 = 13;
 }
 
 // What a check answers.

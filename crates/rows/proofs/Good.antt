@@ -8,7 +8,7 @@ use lib.Dec.{leb, eqb}
 use borrow.Author.Tests.{leb-true, eqb-true, eq-eqb}
 use Rattle.sums.proofs.Tests.{all-true, or-cases, or-else}
 use Rattle.rows.specs.Limits.{mostFactor, mostReading, mostOffer, mostAvailable, mostPrice, mostQuantity}
-use Rattle.rows.specs.Rows.{isAgent, agentBlank, rowBlank, boundaryGood, plantGood, contractGood}
+use Rattle.rows.specs.Rows.{isAgent, agentBlank, boundaryBlank, boundaryGood, plantGood, contractGood}
 use Rattle.rows.specs.declared.Words.{Words}
 use Rattle.rows.specs.declared.Boundary.{Boundary}
 use Rattle.rows.specs.declared.Plant.{Plant}
@@ -16,7 +16,8 @@ use Rattle.rows.specs.declared.Contract.{Contract}
 
 -- an agent's kind is 1 or 2
 pub agent-kind : (kind : ℕ) → isAgent kind ≡ true → (kind ≡ 1) ⊎ (kind ≡ 2)
-agent-kind kind e = ⊎-elim (λ h. inl (eqb-true kind 1 h)) (λ h. inr (eqb-true kind 2 h)) (or-cases (eqb kind 1) (eqb kind 2) e)
+agent-kind kind e =
+    ⊎-elim (λ h. inl (eqb-true kind 1 h)) (λ h. inr (eqb-true kind 2 h)) (or-cases (eqb kind 1) (eqb kind 2) e)
 
 -- ---- unused bytes
 pub record AgentBlank (w : Words) : Type 0 where
@@ -29,8 +30,8 @@ agent-blank w e =
     let all = all-true (eqb (w .second) 0) (eqb (w .third) 0 ∷ eqb (w .fourth) 0 ∷ []) e in
     record { second = eqb-true _ _ (all .0); third = eqb-true _ _ (all .1 .0); fourth = eqb-true _ _ (all .1 .1 .0) }
 
-pub row-blank : (w : Words) → rowBlank w ≡ true → w .second ≡ 0
-row-blank w e = eqb-true _ _ e
+pub boundary-blank : (w : Words) → boundaryBlank w ≡ true → w .second ≡ 0
+boundary-blank w e = eqb-true _ _ e
 
 -- ---- a good boundary, plant and contract, with the kinds of the agents that they name
 pub record BoundaryFits (kind : ℕ) (b : Boundary) : Type 0 where
@@ -42,7 +43,9 @@ pub record BoundaryFits (kind : ℕ) (b : Boundary) : Type 0 where
 
 pub boundary-fits : (kind : ℕ) (b : Boundary) → boundaryGood kind b ≡ true → BoundaryFits kind b
 boundary-fits kind b e =
-    let all = all-true (isAgent kind) (leb (b .factor) mostFactor ∷ leb (b .import) mostReading ∷ leb (b .export) mostReading ∷ (not (eqb kind 2) || eqb (b .factor) 0) ∷ []) e in
+    let all =
+    all-true (isAgent kind) (leb (b .factor) mostFactor ∷ leb (b .import) mostReading ∷ leb (b .export) mostReading
+    ∷ (not (eqb kind 2) || eqb (b .factor) 0) ∷ []) e in
     record {
       known = all .0;
       factor = leb-true _ _ (all .1 .0);
@@ -56,15 +59,19 @@ pub record PlantFits (kind : ℕ) (p : Plant) : Type 0 where
   pub flag : p .inflexible ≤ 1
   pub price : p .price ≤ mostOffer
   pub availability : p .availability ≤ mostAvailable
+  pub within : p .must ≤ p .availability
 
 pub plant-fits : (kind : ℕ) (p : Plant) → plantGood kind p ≡ true → PlantFits kind p
 plant-fits kind p e =
-    let all = all-true (eqb kind 2) (leb (p .inflexible) 1 ∷ leb (p .price) mostOffer ∷ leb (p .availability) mostAvailable ∷ []) e in
+    let all =
+    all-true (eqb kind 2) (leb (p .inflexible) 1 ∷ leb (p .price) mostOffer ∷ leb (p .availability) mostAvailable
+    ∷ leb (p .must) (p .availability) ∷ (not (eqb (p .inflexible) 0) || eqb (p .must) 0) ∷ []) e in
     record {
       generator = eqb-true _ _ (all .0);
       flag = leb-true _ _ (all .1 .0);
       price = leb-true _ _ (all .1 .1 .0);
       availability = leb-true _ _ (all .1 .1 .1 .0);
+      within = leb-true _ _ (all .1 .1 .1 .1 .0);
     }
 
 pub record ContractFits (seller buyer : ℕ) (c : Contract) : Type 0 where
@@ -77,7 +84,9 @@ pub record ContractFits (seller buyer : ℕ) (c : Contract) : Type 0 where
 
 pub contract-fits : (seller buyer : ℕ) (c : Contract) → contractGood seller buyer c ≡ true → ContractFits seller buyer c
 contract-fits seller buyer c e =
-    let all = all-true (eqb seller 2) (eqb buyer 1 ∷ leb 1 (c .kind) ∷ leb (c .kind) 3 ∷ leb (c .price) mostPrice ∷ leb (c .quantity) mostQuantity ∷ []) e in
+    let all =
+    all-true (eqb seller 2) (eqb buyer 1 ∷ leb 1 (c .kind) ∷ leb (c .kind) 3 ∷ leb (c .price) mostPrice
+    ∷ leb (c .quantity) mostQuantity ∷ []) e in
     record {
       generator = eqb-true _ _ (all .0);
       retailer = eqb-true _ _ (all .1 .0);

@@ -24,18 +24,31 @@ abbrev pub boundaryOf : Words → Boundary
 boundaryOf w = record { agent = low (w .first); factor = high (w .first); import = w .third; export = w .fourth }
 
 abbrev pub plantOf : Words → Plant
-plantOf w = record { agent = low (w .first); inflexible = high (w .first); price = w .third; availability = w .fourth }
+plantOf w =
+    record {
+      agent = low (w .first);
+      inflexible = high (w .first);
+      must = w .second;
+      price = w .third;
+      availability = w .fourth;
+    }
 
 abbrev pub contractOf : Words → Contract
 contractOf w =
-    record { seller = low (w .first); buyer = high (w .first); kind = w .second; price = w .third; quantity = w .fourth }
+    record {
+      seller = low (w .first);
+      buyer = high (w .first);
+      kind = w .second;
+      price = w .third;
+      quantity = w .fourth;
+    }
 
--- ---- unused bytes are 0: bytes 4 to 15 of an agent, 4 to 7 of a boundary and of a plant
+-- ---- unused bytes are 0: bytes 4 to 15 of an agent, 4 to 7 of a boundary
 abbrev pub agentBlank : Words → Bool
 agentBlank w = eqb (w .second) 0 && eqb (w .third) 0 && eqb (w .fourth) 0
 
-abbrev pub rowBlank : Words → Bool
-rowBlank w = eqb (w .second) 0
+abbrev pub boundaryBlank : Words → Bool
+boundaryBlank w = eqb (w .second) 0
 
 -- ---- the kinds of agent: 1 retailer, 2 generator
 abbrev pub isRetailer : ℕ → Bool
@@ -62,10 +75,12 @@ boundaryGood kind b =
     isAgent kind && leb (b .factor) mostFactor && leb (b .import) mostReading && leb (b .export) mostReading
     && (not (isGenerator kind) || eqb (b .factor) 0)
 
--- the agent is a generator, the flag is 0 or 1, price and availability are within their limits
+-- the agent is a generator, the flag is 0 or 1, price and availability are within their limits; the must-run is 0 for a flexible
+-- plant, at most its availability for an inflexible one
 abbrev pub plantGood : (kind : ℕ) → Plant → Bool
 plantGood kind p =
     isGenerator kind && leb (p .inflexible) 1 && leb (p .price) mostOffer && leb (p .availability) mostAvailable
+    && leb (p .must) (p .availability) && (not (eqb (p .inflexible) 0) || eqb (p .must) 0)
 
 -- the seller is a generator, the buyer a retailer; kind, price and quantity are within their ranges
 abbrev pub contractGood : (seller buyer : ℕ) → Contract → Bool

@@ -3,7 +3,7 @@ ghost use mathlib.Core.Path.{_≡_};
 ghost use Prim.Native.Nat.{_+_, _≤_, _<_};
 ghost use lib.ListN.{length};
 ghost use Rattle.rows.specs.Bytes.{u32At, wordsAt};
-ghost use Rattle.rows.specs.Rows.{agentOf, boundaryOf, plantOf, contractOf, agentBlank, rowBlank, fewRows, agentGood, boundaryGood, plantGood, contractGood};
+ghost use Rattle.rows.specs.Rows.{agentOf, boundaryOf, plantOf, contractOf, agentBlank, boundaryBlank, fewRows, agentGood, boundaryGood, plantGood, contractGood};
 
 // A row's sixteen bytes, as four 32-bit numbers.
 pub struct Words {
@@ -52,6 +52,8 @@ impl Boundary {
 pub struct Plant {
     pub agent: u32,
     pub inflexible: u32,
+    // What it runs whatever its price, in kWh: 0 for a flexible plant.
+    pub must: u32,
     pub price: u32,
     pub availability: u32,
 }
@@ -155,6 +157,7 @@ pub fn plant_of(w: Words) -> Plant
     Plant {
         agent: w.first % 65536,
         inflexible: w.first / 65536,
+        must: w.second,
         price: w.third,
         availability: w.fourth,
     }
@@ -172,15 +175,15 @@ pub fn contract_of(w: Words) -> Contract
     }
 }
 
-// The unused bytes of an agent's row are 0; those of a boundary's and of a plant's.
+// The unused bytes of an agent's row are 0; those of a boundary's.
 pub fn agent_blank(w: Words) -> bool
     ensures { λ r. ⌜ r ≡ agentBlank w ⌝ }
 {
     (w.second == 0) & (w.third == 0) & (w.fourth == 0)
 }
 
-pub fn row_blank(w: Words) -> bool
-    ensures { λ r. ⌜ r ≡ rowBlank w ⌝ }
+pub fn boundary_blank(w: Words) -> bool
+    ensures { λ r. ⌜ r ≡ boundaryBlank w ⌝ }
 {
     w.second == 0
 }
@@ -219,6 +222,8 @@ pub fn plant_good(kind: u32, p: Plant) -> bool
         & (p.inflexible <= Plant::INFLEXIBLE)
         & (p.price <= Plant::OFFER)
         & (p.availability <= Plant::AVAILABILITY)
+        & (p.must <= p.availability)
+        & ((p.inflexible != 0) | (p.must == 0))
 }
 
 pub fn contract_good(seller: u32, buyer: u32, c: Contract) -> bool

@@ -9,7 +9,7 @@ use borrow.Author.Tests.{le-leb, lt-leb}
 use Rattle.sums.specs.Sums.{sum}
 use Rattle.sums.specs.Lists.{at, Filled}
 use Rattle.sums.proofs.Fill.{filled-none, filled-count, filled-front, filled-unique}
-use Rattle.refusals.specs.Refusals.{uncovered, noRoom, refused, cells}
+use Rattle.refusals.specs.Refusals.{uncovered, overrun, noRoom, refused, cells}
 use Rattle.refusals.specs.declared.Refusal.{Refusal}
 use Rattle.refusals.specs.declared.Verdict.{Verdict}
 use Rattle.rows.specs.Limits.{mostAgents}
@@ -21,7 +21,7 @@ use Rattle.hour.specs.Sheet.{Sheet, agents, plants, contracts}
 use Rattle.hour.specs.Balance.{lossShare, commercial, ownImport, losses, demands, hourDemand}
 use Rattle.hour.specs.Answer.{Lent, Roomy, balanceVerdict, coverVerdict, roomVerdict, hourVerdict}
 use Rattle.hour.specs.declared.Summary.{Summary}
-use Rattle.hour.proofs.Verdicts.{covered}
+use Rattle.hour.proofs.Verdicts.{Covers, covered}
 use Rattle.hour.proofs.Verdicts as verdicts
 use Rattle.refusals.proofs.Fine.{both-fine, AllFine, fine-parts}
 use Rattle.balance.specs.Balances.{zeros, weighVerdict, Weighed}
@@ -31,17 +31,21 @@ use Rattle.settle.specs.Parts.{turnedAway, roomy, lateVerdict}
 use Rattle.settle.specs.Settled.{lent, verdictOf, Outcome, Settled}
 
 -- ---- the ways out of the judgement
-module _ (v : Verdict) (d o : ℕ) (room : Bool) (e : v ≡ Verdict.Fine) where
-  pub late-10 : o < d → lateVerdict v d o room ≡ refused uncovered 0
-  late-10 l = rw (e, lt-leb d o l)
+module _ (v : Verdict) (d a m : ℕ) (room : Bool) (e : v ≡ Verdict.Fine) where
+  pub late-10 : a < d → lateVerdict v d a m room ≡ refused uncovered 0
+  late-10 l = rw (e, lt-leb d a l)
 
-  pub late-11 : d ≤ o → room ≡ false → lateVerdict v d o room ≡ refused noRoom 0
-  late-11 l r = rw (e, le-leb d o l, r)
+  module _ (l : d ≤ a) where
+    pub late-13 : d < m → lateVerdict v d a m room ≡ refused overrun 0
+    late-13 h = rw (e, le-leb d a l, lt-leb m d h)
 
-  pub late-fine : d ≤ o → room ≡ true → lateVerdict v d o room ≡ Verdict.Fine
-  late-fine l r = rw (e, le-leb d o l, r)
+    pub late-11 : m ≤ d → room ≡ false → lateVerdict v d a m room ≡ refused noRoom 0
+    late-11 h r = rw (e, le-leb d a l, le-leb m d h, r)
 
--- a refused balance is the hour's refusal; else the counts and the demand are the sheet's, and so are refusals 10 and 11
+    pub late-fine : m ≤ d → room ≡ true → lateVerdict v d a m room ≡ Verdict.Fine
+    late-fine h r = rw (e, le-leb d a l, le-leb m d h, r)
+
+-- a refused balance is the hour's refusal; else the counts and the demand are the sheet's, and so are refusals 10, 13 and 11
 module _ (bytes : List ℕ) (l : Lent) (b : Balance) (w : Weighed bytes b) where
   abbrev sheet : Sheet
   sheet = columnsOf bytes (b .counts)
@@ -51,13 +55,14 @@ module _ (bytes : List ℕ) (l : Lent) (b : Balance) (w : Weighed bytes b) where
       roomy (b .counts .agents) (b .counts .plants) (b .counts .contracts) (length (l .figures)) (length (l .money))
       (length (l .schedule)) (length (l .amounts))
 
-  pub verdict-is : lateVerdict (b .verdict) (b .demand) (sum (plants sheet) (at (sheet .available))) room
-      ≡ verdictOf bytes l
+  pub verdict-is : lateVerdict (b .verdict) (b .demand) (sum (plants sheet) (at (sheet .available)))
+      (sum (plants sheet) (at (sheet .mustRun))) room ≡ verdictOf bytes l
   unfolding verdictOf hourVerdict coverVerdict roomVerdict weighVerdict hourOf
   verdict-is = go (readVerdict bytes) (balanceVerdict (hourOf bytes)) refl refl
     where
       go : (u v : Verdict) → readVerdict bytes ≡ u → balanceVerdict (hourOf bytes) ≡ v
-          → lateVerdict (b .verdict) (b .demand) (sum (plants sheet) (at (sheet .available))) room ≡ verdictOf bytes l
+          → lateVerdict (b .verdict) (b .demand) (sum (plants sheet) (at (sheet .available)))
+          (sum (plants sheet) (at (sheet .mustRun))) room ≡ verdictOf bytes l
       go (Verdict.Refused q) v e f = rw (w .answer, e)
       go Verdict.Fine (Verdict.Refused q) e f = rw (w .answer, e, f)
       go Verdict.Fine Verdict.Fine e f =
@@ -79,7 +84,7 @@ module _ (bytes : List ℕ) (l : Lent) (b : Balance) (w : Weighed bytes b) where
   -- ---- an hour that nothing turns away: what was read and weighed is the sheet's
   pub record Open : Type 0 where
     pub read : readOf bytes ≡ Reading.Accepted (b .counts)
-    pub cover : hourDemand sheet ≤ sum (plants sheet) (at (sheet .available))
+    pub cover : Covers sheet
     pub room : Roomy sheet l
     pub kinds : Filled 0 zeros (b .kinds) (b .counts .agents) (at (sheet .kinds))
     pub shares : Filled 0 zeros (b .shares) (b .counts .agents) (lossShare sheet)

@@ -9,13 +9,15 @@ use lib.IntN.{ℤ, pos}
 use lib.ListN.{length, take}
 use Rattle.sums.specs.Sums.{sum, pick, keyed}
 use Rattle.sums.specs.Lists.{at, Filled}
-use Rattle.sums.proofs.Sums.{sum-most, sum-term, peak-eq}
-use Rattle.sums.proofs.Lists.{zeros-at}
+use Rattle.sums.proofs.Sums.{sum-eq, sum-most, sum-term, peak-eq}
+use Rattle.sums.proofs.Lists.{zeros-at, length-listTo, getD-listTo}
 use Rattle.sums.proofs.Keyed.{keyed-eq}
-use Rattle.sums.proofs.Fill.{filled-count, filled-by, front-at, front-long}
+use Rattle.sums.proofs.Fill.{filled-count, filled-by, filled-then, front-at, front-long}
 use Rattle.refusals.specs.declared.Verdict.{Verdict}
 use Rattle.rows.specs.Limits.{mostAgents, mostAvailable}
-use Rattle.merit.specs.Merit.{hourPrice}
+use Rattle.merit.specs.Merit.{schedule, idealDispatch, hourPrice}
+use Rattle.merit.proofs.Schedule.{schedule-eq}
+use Rattle.merit.proofs.MustRun.{sum-above}
 use Rattle.dispatch.specs.Dispatch.{Dispatched, priceOf}
 use Rattle.dispatch.proofs.Dispatched.{dispatched-plain, price-plain}
 use Rattle.hour.specs.Sheet.{Sheet, agents, plants, retails}
@@ -27,27 +29,60 @@ use Rattle.hour.proofs.Bounds.{scheduled-le, import-le, imported-le}
 use Rattle.hour.proofs.Fits.{contracted-le}
 use Rattle.hour.proofs.Cells.{figure-is}
 use Rattle.balance.specs.Balances.{zeros}
-use Rattle.settle.specs.Parts.{Countable, Tallied, Covered, buys, sells, lineCell, lineMoney}
+use Rattle.settle.specs.Parts.{Countable, Tallied, spareOf, Covered, buys, sells, lineCell, lineMoney}
 
 -- an agent's part of the hour's demand
 part-le : (h : Sheet) (a : ℕ) → a < agents h → commercial h a ≤ hourDemand h
 unfolding hourDemand
 part-le h a l = omega (arith, sum-term (agents h) a (λ k. commercial h k + ownImport h k) l)
 
+-- ---- the schedule: the price order over what is spare, for the demand that the must-runs leave, and then the must-runs added
+module _ (h : Sheet) (ok : Sound h) (d : ℕ) (before cs : List ℕ) (cover : Covered h d (length before) cs) where
+  spare-at : (i : ℕ) → i < plants h → at (spareOf h) i ≡ at (h .available) i - at (h .mustRun) i
+  unfolding spareOf
+  spare-at i l = getD-listTo 0 _ _ i l
+
+  -- the demand that the must-runs leave
+  left : ℕ
+  left = hourDemand h - sum (plants h) (at (h .mustRun))
+
+  left-covered : left ≤ sum (plants h) (at (spareOf h))
+  unfolding left
+  left-covered =
+      omega (
+        arith,
+        cover .enough,
+        sum-above (at (h .offers)) (at (h .mustRun)) (at (h .available)) (plants h) d (λ i l. ok .plant i l .mustRun),
+        sum-eq (plants h) (at (spareOf h)) (λ i. at (h .available) i - at (h .mustRun) i) spare-at,
+      )
+
+  module _ (rest : ℕ) (e : rest ≡ d - sum (plants h) (at (h .mustRun))) (r : Verdict) (mid : List ℕ)
+      (w : Dispatched (h .offers) (spareOf h) rest before r mid) where
+    above-filled : Filled 0 before mid (plants h) (schedule (at (h .offers)) (at (spareOf h)) (plants h) left)
+    unfolding left spareOf
+    above-filled =
+        let k : Dispatched (h .offers) (spareOf h) left before r mid = rw (e, cover .demand) at w in
+        dispatched-plain (h .offers) (spareOf h) (plants h) (ok .whole .offers) (length-listTo _ _) left before r mid
+        left-covered (cover .fits) k .1
+
+    pub scheduled-at : (i : ℕ) → i < plants h → at (h .mustRun) i + at mid i ≡ scheduled h i
+    unfolding scheduled idealDispatch left
+    scheduled-at i l =
+        ap (λ (x : ℕ). at (h .mustRun) i + x)
+        (above-filled .done i l
+        ∙ schedule-eq (at (h .offers)) (at (h .offers)) (at (spareOf h)) (λ j. at (h .available) j - at (h .mustRun) j)
+        (plants h) _ i l (λ j m. refl) spare-at)
+
+    pub scheduled-are : (after : List ℕ)
+        → Filled 0 mid after (plants h) (λ i. at (h .mustRun) i + at mid i)
+        → Filled 0 before after (plants h) (scheduled h)
+    scheduled-are after f =
+        filled-by 0 _ _ _ _ _ scheduled-at
+        (filled-then 0 _ _ _ _ _ _ above-filled f)
+
 module _ (h : Sheet) (ok : Sound h) where
   -- ---- plants
   module _ (n : ℕ) (e : plants h ≡ n) where
-    pub scheduled-are : (os vs : List ℕ) (d : ℕ) (before cs : List ℕ) (r : Verdict) (after : List ℕ)
-        → os ≡ h .offers
-        → vs ≡ h .available
-        → Covered h d (length before) cs → Dispatched os vs d before r after → Filled 0 before after n (scheduled h)
-    unfolding scheduled
-    scheduled-are os vs d before cs r after p q c w =
-        let k : Dispatched (h .offers) (h .available) (hourDemand h) before r after = rw (p, q, c .demand) at w in
-        filled-count 0 _ _ _ _ _ e
-        (dispatched-plain (h .offers) (h .available) (plants h) (ok .whole .offers) (ok .whole .available)
-        (hourDemand h) before r after (c .enough) (c .fits) k .1)
-
     module _ (before after : List ℕ) (l : n ≤ length before) (f : Filled 0 before after n (scheduled h)) where
       pub price-is : (os ts : List ℕ) → os ≡ h .offers → ts ≡ h .flags → priceOf os ts (take n after) ≡ bolsaPrice h
       unfolding bolsaPrice hourPrice

@@ -7,8 +7,8 @@ use lib.Dec.{leb}
 use lib.IntN.{ℤ}
 use lib.ListN.{length, set}
 use Rattle.sums.specs.Sums.{sum, keyed}
-use Rattle.sums.specs.Lists.{at, Filled}
-use Rattle.refusals.specs.Refusals.{uncovered, noRoom, refusedUnless, firstOf}
+use Rattle.sums.specs.Lists.{at, listTo, Filled}
+use Rattle.refusals.specs.Refusals.{noRoom, refusedUnless, firstOf}
 use Rattle.refusals.specs.declared.Refusal.{Refusal}
 use Rattle.refusals.specs.declared.Verdict.{Verdict}
 use Rattle.rows.specs.Limits.{mostAgents, mostPlants, mostContracts, mostAvailable, mostQuantity}
@@ -17,6 +17,7 @@ use Rattle.balance.specs.Balances.{zeros}
 use Rattle.contracts.specs.Assign.{countIn, dealIn}
 use Rattle.hour.specs.Sheet.{Sheet, agents, plants, contracts}
 use Rattle.hour.specs.Balance.{commercial, demands, hourDemand}
+use Rattle.hour.specs.Answer.{coverOf}
 use Rattle.hour.specs.Lines.{scheduled, bolsaPrice, amount, own, contracted, moneyOf, cellsPerAgent, cellOf}
 use Rattle.hour.specs.declared.Summary.{Summary}
 
@@ -58,19 +59,25 @@ lineMoney ks os is cs price a =
 abbrev pub turnedAway : Refusal → Summary
 turnedAway r = record { number = r .number; place = r .place; price = 0; demand = 0; losses = 0 }
 
--- ---- refusals 10 and 11 behind those of the balance
+-- ---- refusals 10, 13 and 11 behind those of the balance
 abbrev pub roomy : (agents plants contracts figures money schedule amounts : ℕ) → Bool
 roomy n p q f m s t = leb (cellsPerAgent * n) f && leb n m && leb p s && leb q t
 
-abbrev pub lateVerdict : Verdict → (demand offered : ℕ) → Bool → Verdict
-lateVerdict v d o room = firstOf (v ∷ refusedUnless (leb d o) uncovered 0 ∷ refusedUnless room noRoom 0 ∷ [])
+abbrev pub lateVerdict : Verdict → (demand available mustRun : ℕ) → Bool → Verdict
+lateVerdict v d a m room = firstOf (v ∷ coverOf d a m ∷ refusedUnless room noRoom 0 ∷ [])
 
 -- ---- the plants of the sheet h
 
--- the demand is the hour's, the plants cover it, the lent list has a cell for each, and the commercial demands stand in os
+-- what each has to spare above its must-run
+unfoldable pub spareOf : Sheet → List ℕ
+spareOf h = listTo (λ i. at (h .available) i - at (h .mustRun) i) (plants h)
+
+-- the demand is the hour's, the plants cover it and need not run beyond it, the lent list has a cell for each, and the commercial
+-- demands stand in os
 pub record Covered (h : Sheet) (d room : ℕ) (os : List ℕ) : Type 0 where
   pub demand : d ≡ hourDemand h
   pub enough : hourDemand h ≤ sum (plants h) (at (h .available))
+  pub runs : sum (plants h) (at (h .mustRun)) ≤ hourDemand h
   pub fits : plants h ≤ room
   pub commercial : Filled 0 zeros os (agents h) (commercial h)
 

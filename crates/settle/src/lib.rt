@@ -1,5 +1,5 @@
 // One hour settled: a sheet and four lent lists go in; the summary comes back and the lists are filled, or a refusal and the
-// lists as they were. Everything is judged before anything is written.
+// lists as they were. Everything is lateVerdict before anything is written.
 use hour::Summary;
 use refusals::Refusal;
 use refusals::Verdict;
@@ -49,16 +49,20 @@ fn has_room(c: Counts, figures: usize, money: usize, schedule: usize, amounts: u
         & (c.contracts <= amounts)
 }
 
-// Refusals 1 to 9 as weighing has them, then 10, then 11.
+// Refusals 1 to 9 as weighing has them, then 10, then 13, then 11.
 fn judge(bytes: &[u8], c: Counts, weighed: Verdict, demand: u32, room: bool) -> Verdict
     requires { ⌜ (weighed ≡ Verdict.Fine → readOf (now bytes) ≡ Reading.Accepted c) ⌝ }
-    ensures { λ r. ⌜ r ≡ lateVerdict weighed demand (sum (plants (columnsOf (now (bytes .entry)) c)) (at (columnsOf (now (bytes .entry)) c .available))) room ⌝ }
+    ensures { λ r. ⌜ r ≡ lateVerdict weighed demand (sum (plants (columnsOf (now (bytes .entry)) c)) (at (columnsOf (now (bytes .entry)) c .available))) (sum (plants (columnsOf (now (bytes .entry)) c)) (at (columnsOf (now (bytes .entry)) c .mustRun))) room ⌝ }
 {
     let Verdict::Fine = weighed else {
         return weighed;
     };
-    if plants::offered(bytes, c) < demand {
+    let offer = plants::offered(bytes, c);
+    if offer.available < demand {
         return refusals::refuse(Refusal::UNCOVERED, 0);
+    }
+    if demand < offer.must {
+        return refusals::refuse(Refusal::OVERRUN, 0);
     }
     if room {
         return Verdict::Fine;

@@ -13,9 +13,9 @@ use Rattle.refusals.specs.declared.Refusal.{Refusal}
 use Rattle.refusals.specs.declared.Verdict.{Verdict}
 use Rattle.rows.specs.Limits.{mostAgents, mostBoundaries, mostPlants, mostContracts}
 use Rattle.rows.specs.Bytes.{wordsAt}
-use Rattle.rows.specs.Rows.{isAgent, agentBlank, rowBlank, agentGood, boundaryGood, plantGood, contractGood}
+use Rattle.rows.specs.Rows.{isAgent, agentBlank, boundaryBlank, agentGood, boundaryGood, plantGood, contractGood}
 use Rattle.sums.proofs.Tests.{and-left, and-right}
-use Rattle.rows.proofs.Good.{agent-kind, AgentBlank, agent-blank, row-blank, BoundaryFits, boundary-fits, PlantFits, plant-fits, ContractFits, contract-fits}
+use Rattle.rows.proofs.Good.{agent-kind, AgentBlank, agent-blank, boundary-blank, BoundaryFits, boundary-fits, PlantFits, plant-fits, ContractFits, contract-fits}
 use Rattle.sheet.specs.Reading.{boundaryStart, plantStart, sheetLength, longest, lengthGood, countsOf, countsGood, distancesGood, layoutGood, kindAt, agentVerdict, boundaryVerdict, plantVerdict, contractVerdict, checks, readVerdict, reading, readOf}
 use Rattle.sheet.specs.Asking.{agentAt, boundaryAt, plantAt, contractAt}
 use Rattle.sheet.specs.declared.Counts.{Counts}
@@ -30,11 +30,10 @@ pub record Whole (s : List ℕ) (c : Counts) : Type 0 where
   pub distances : distancesGood s c ≡ true
   pub agentBlanks : (i : ℕ) → i < c .agents → agentBlank (wordsAt s i) ≡ true
   pub agents : (i : ℕ) → i < c .agents → agentGood (agentAt s c i) ≡ true
-  pub boundaryBlanks : (i : ℕ) → i < c .boundaries → rowBlank (wordsAt s (boundaryStart c + i)) ≡ true
+  pub boundaryBlanks : (i : ℕ) → i < c .boundaries → boundaryBlank (wordsAt s (boundaryStart c + i)) ≡ true
   pub boundaries : (i : ℕ)
       → i < c .boundaries
       → boundaryGood (kindAt s c (boundaryAt s c i .agent)) (boundaryAt s c i) ≡ true
-  pub plantBlanks : (i : ℕ) → i < c .plants → rowBlank (wordsAt s (plantStart c + i)) ≡ true
   pub plants : (i : ℕ) → i < c .plants → plantGood (kindAt s c (plantAt s c i .agent)) (plantAt s c i) ≡ true
   pub contracts : (i : ℕ) → i < c .contracts
       → contractGood (kindAt s c (contractAt s c i .seller)) (kindAt s c (contractAt s c i .buyer)) (contractAt s c i)
@@ -61,6 +60,10 @@ good-few c e₄ =
       plants = leb-true _ _ (and-right (a && b) p e₃);
       contracts = leb-true _ _ (and-right (a && b && p) k e₄);
     }
+
+pub few-good : (c : Counts) → Few c → countsGood c ≡ true
+few-good c f =
+    rw (le-leb _ _ (f .agents), le-leb _ _ (f .boundaries), le-leb _ _ (f .plants), le-leb _ _ (f .contracts))
 
 -- a length that the layout says is never refused by 1
 layout-length : (n : ℕ) (c : Counts) → countsGood c ≡ true → n ≡ sheetLength c → lengthGood n ≡ true
@@ -95,17 +98,12 @@ module _ (s : List ℕ) where
             λ i h. and-left (agentBlank (wordsAt s i)) _ (fine-test _ _ _ (each-fine (agentVerdict s c) _ i a h));
         agents = λ i h. and-right (agentBlank (wordsAt s i)) _ (fine-test _ _ _ (each-fine (agentVerdict s c) _ i a h));
         boundaryBlanks = λ i h.
-            and-left (rowBlank (wordsAt s (boundaryStart c + i))) _
+            and-left (boundaryBlank (wordsAt s (boundaryStart c + i))) _
             (fine-test _ _ _ (each-fine (boundaryVerdict s c) _ i b h));
         boundaries = λ i h.
-            and-right (rowBlank (wordsAt s (boundaryStart c + i))) _
+            and-right (boundaryBlank (wordsAt s (boundaryStart c + i))) _
             (fine-test _ _ _ (each-fine (boundaryVerdict s c) _ i b h));
-        plantBlanks =
-            λ i h. and-left (rowBlank (wordsAt s (plantStart c + i))) _
-            (fine-test _ _ _ (each-fine (plantVerdict s c) _ i p h));
-        plants =
-            λ i h. and-right (rowBlank (wordsAt s (plantStart c + i))) _
-            (fine-test _ _ _ (each-fine (plantVerdict s c) _ i p h));
+        plants = λ i h. fine-test _ _ _ (each-fine (plantVerdict s c) _ i p h);
         contracts = λ i h. fine-test _ _ _ (each-fine (contractVerdict s c) _ i k h);
       }
 
@@ -123,7 +121,7 @@ module _ (s : List ℕ) where
             (
               all-fine (boundaryVerdict s c) (c .boundaries) (λ i h. rw (w .boundaryBlanks i h, w .boundaries i h)),
               (
-                all-fine (plantVerdict s c) (c .plants) (λ i h. rw (w .plantBlanks i h, w .plants i h)),
+                all-fine (plantVerdict s c) (c .plants) (λ i h. rw (w .plants i h)),
                 (
                   all-fine (contractVerdict s c) (c .contracts) (λ i h. rw (w .contracts i h)),
                   tt,
@@ -193,7 +191,6 @@ pub record BoundarySound (s : List ℕ) (c : Counts) (i : ℕ) : Type 0 where
   pub fits : BoundaryFits (kindAt s c (boundaryAt s c i .agent)) (boundaryAt s c i)
 
 pub record PlantSound (s : List ℕ) (c : Counts) (i : ℕ) : Type 0 where
-  pub blank : wordsAt s (plantStart c + i) .second ≡ 0
   pub there : plantAt s c i .agent < c .agents
   pub fits : PlantFits (kindAt s c (plantAt s c i .agent)) (plantAt s c i)
 
@@ -231,7 +228,7 @@ module _ (s : List ℕ) (c : Counts) (e : readOf s ≡ Reading.Accepted c) where
       let w = accepted-whole s c e in
       let f = boundary-fits (kindAt s c (boundaryAt s c i .agent)) (boundaryAt s c i) (w .boundaries i h) in
       record {
-        blank = row-blank (wordsAt s (boundaryStart c + i)) (w .boundaryBlanks i h);
+        blank = boundary-blank (wordsAt s (boundaryStart c + i)) (w .boundaryBlanks i h);
         there = agent-there s c _ (f .known);
         fits = f;
       }
@@ -241,7 +238,6 @@ module _ (s : List ℕ) (c : Counts) (e : readOf s ≡ Reading.Accepted c) where
       let w = accepted-whole s c e in
       let f = plant-fits (kindAt s c (plantAt s c i .agent)) (plantAt s c i) (w .plants i h) in
       record {
-        blank = row-blank (wordsAt s (plantStart c + i)) (w .plantBlanks i h);
         there = kind-there s c _ (omega arith);
         fits = f;
       }

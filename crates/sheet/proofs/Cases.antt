@@ -1,5 +1,5 @@
 -- A table of sheets and what reading and asking answer, by the definitions alone: the paper's worked hour, the empty sheet, one byte
--- less, and a retailer that sells. Assumes nothing.
+-- less, a retailer that sells, and must-runs on each side of their bounds. Assumes nothing.
 use Prim.Native.Nat.{ℕ, _*_, _+_, _/_, _%_}
 use mathlib.Core.Path.{_≡_, refl}
 use mathlib.Core.List.{List, [], _∷_, map, replicate}
@@ -53,6 +53,15 @@ march =
     ∷ 80 ∷ 3 ∷ 32 ∷ 0
     ∷ 32 ∷ 0 ∷ 32 ∷ 2 ∷ [])
 
+-- one generator with one plant of 100 kWh
+abbrev plantOnly : (inflexible must : ℕ) → List ℕ
+plantOnly t m =
+    spelled
+    (2 ∷ 0 ∷ 0 ∷ 0
+    ∷ two 0 t ∷ m ∷ 9000 ∷ 100
+    ∷ 32 ∷ 1 ∷ 16 ∷ 0
+    ∷ 16 ∷ 1 ∷ 0 ∷ 0 ∷ [])
+
 abbrev counts : (agents boundaries plants contracts : ℕ) → Counts
 counts a b p c = record { agents = a; boundaries = b; plants = p; contracts = c }
 
@@ -65,12 +74,23 @@ pub read-cases : map readOf (replicate 31 0 ∷ replicate 32 0 ∷ hour ∷ marc
 unfolding u32At wordsAt countsOf distancesGood layoutGood kindAt agentVerdict boundaryVerdict plantVerdict contractVerdict firstBad readVerdict readOf
 read-cases = refl
 
+-- a flexible plant must run nothing, an inflexible one at most its availability
+pub must-run-cases : map readOf (plantOnly 0 0 ∷ plantOnly 0 1 ∷ plantOnly 1 0 ∷ plantOnly 1 100 ∷ plantOnly 1 101 ∷ [])
+    ≡ (Reading.Accepted (counts 1 0 1 0)
+    ∷ Reading.Refused (refusal 5 0)
+    ∷ Reading.Accepted (counts 1 0 1 0)
+    ∷ Reading.Accepted (counts 1 0 1 0)
+    ∷ Reading.Refused (refusal 5 0)
+    ∷ [])
+unfolding u32At wordsAt countsOf distancesGood layoutGood kindAt agentVerdict boundaryVerdict plantVerdict contractVerdict firstBad readVerdict readOf
+must-run-cases = refl
+
 -- the worked hour asked for rows: a bad section is reported before a bad row
 pub row-cases : map (λ (q : ℕ × ℕ). rowOf hour (counts 4 4 3 4) (q .0) (q .1))
     ((1, 3) ∷ (2, 3) ∷ (3, 2) ∷ (4, 3) ∷ (4, 4) ∷ (0, 0) ∷ (5, 99) ∷ [])
     ≡ (RowRead.Row (fields 2 0 0 0 0)
     ∷ RowRead.Row (fields 2 1000 400 0 0)
-    ∷ RowRead.Row (fields 0 1 9000 100 0)
+    ∷ RowRead.Row (fields 0 1 0 9000 100)
     ∷ RowRead.Row (fields 3 2 2 6500 500)
     ∷ RowRead.Refused (refusal 12 4)
     ∷ RowRead.Refused (refusal 12 0)

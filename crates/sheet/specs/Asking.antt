@@ -57,7 +57,7 @@ abbrev pub boundaryFields : Boundary → Fields
 boundaryFields b = fields (b .agent) (b .factor) (b .import) (b .export) 0
 
 abbrev pub plantFields : Plant → Fields
-plantFields p = fields (p .agent) (p .inflexible) (p .price) (p .availability) 0
+plantFields p = fields (p .agent) (p .inflexible) (p .must) (p .price) (p .availability)
 
 abbrev pub contractFields : Contract → Fields
 contractFields c = fields (c .seller) (c .buyer) (c .kind) (c .price) (c .quantity)

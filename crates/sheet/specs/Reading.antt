@@ -9,7 +9,7 @@ use Rattle.refusals.specs.Refusals.{badLength, badLayout, badAgent, badBoundary
 use Rattle.refusals.specs.declared.Verdict.{Verdict}
 use Rattle.rows.specs.Limits.{mostAgents, mostBoundaries, mostPlants, mostContracts}
 use Rattle.rows.specs.Bytes.{wordsAt}
-use Rattle.rows.specs.Rows.{agentOf, boundaryOf, plantOf, contractOf, agentBlank, rowBlank, fewRows, agentGood, boundaryGood, plantGood, contractGood}
+use Rattle.rows.specs.Rows.{agentOf, boundaryOf, plantOf, contractOf, agentBlank, boundaryBlank, fewRows, agentGood, boundaryGood, plantGood, contractGood}
 use Rattle.sheet.specs.declared.Counts.{Counts}
 use Rattle.sheet.specs.declared.Reading.{Reading}
 
@@ -76,13 +76,11 @@ unfoldable pub boundaryVerdict : List ℕ → Counts → ℕ → Verdict
 boundaryVerdict s c i =
     let w = wordsAt s (boundaryStart c + i) in
     let b = boundaryOf w in
-    refusedUnless (rowBlank w && boundaryGood (kindAt s c (b .agent)) b) badBoundary i
+    refusedUnless (boundaryBlank w && boundaryGood (kindAt s c (b .agent)) b) badBoundary i
 
 unfoldable pub plantVerdict : List ℕ → Counts → ℕ → Verdict
 plantVerdict s c i =
-    let w = wordsAt s (plantStart c + i) in
-    let p = plantOf w in
-    refusedUnless (rowBlank w && plantGood (kindAt s c (p .agent)) p) badPlant i
+    let p = plantOf (wordsAt s (plantStart c + i)) in refusedUnless (plantGood (kindAt s c (p .agent)) p) badPlant i
 
 unfoldable pub contractVerdict : List ℕ → Counts → ℕ → Verdict
 contractVerdict s c i =

@@ -8,7 +8,7 @@ use lib.ListN.{length}
 use Rattle.refusals.specs.Refusals.{refusedUnless, firstOf, firstBad}
 use Rattle.refusals.specs.declared.Verdict.{Verdict}
 use Rattle.rows.specs.Bytes.{wordsAt}
-use Rattle.rows.specs.Rows.{agentOf, boundaryOf, plantOf, contractOf, agentBlank, rowBlank, agentGood, boundaryGood, plantGood, contractGood}
+use Rattle.rows.specs.Rows.{agentOf, boundaryOf, plantOf, contractOf, agentBlank, boundaryBlank, agentGood, boundaryGood, plantGood, contractGood}
 use Rattle.rows.specs.declared.Words.{Words}
 use Rattle.sheet.specs.Reading.{trailerStart, sheetLength, kindAt}
 use Rattle.sheet.specs.Asking.{bySection, rowsIn, rowsBefore}
@@ -34,10 +34,10 @@ abbrev pub agentRowGood : Words → Bool
 agentRowGood w = agentBlank w && agentGood (agentOf w)
 
 abbrev pub boundaryRowGood : (kind : ℕ → ℕ) → Words → Bool
-boundaryRowGood kind w = rowBlank w && boundaryGood (kind (boundaryOf w .agent)) (boundaryOf w)
+boundaryRowGood kind w = boundaryBlank w && boundaryGood (kind (boundaryOf w .agent)) (boundaryOf w)
 
 abbrev pub plantRowGood : (kind : ℕ → ℕ) → Words → Bool
-plantRowGood kind w = rowBlank w && plantGood (kind (plantOf w .agent)) (plantOf w)
+plantRowGood kind w = plantGood (kind (plantOf w .agent)) (plantOf w)
 
 abbrev pub contractRowGood : (kind : ℕ → ℕ) → Words → Bool
 contractRowGood kind w = contractGood (kind (contractOf w .seller)) (kind (contractOf w .buyer)) (contractOf w)
@@ -60,4 +60,5 @@ unfoldable pub sectionVerdict : List ℕ → Counts → ℕ → Verdict
 sectionVerdict s c k = firstBad (rowVerdict s c k) 0 (rowsIn c k)
 
 unfoldable pub rowsVerdict : List ℕ → Counts → Verdict
-rowsVerdict s c = firstOf (sectionVerdict s c 1 ∷ sectionVerdict s c 2 ∷ sectionVerdict s c 3 ∷ sectionVerdict s c 4 ∷ [])
+rowsVerdict s c =
+    firstOf (sectionVerdict s c 1 ∷ sectionVerdict s c 2 ∷ sectionVerdict s c 3 ∷ sectionVerdict s c 4 ∷ [])

@@ -150,9 +150,9 @@ pub(crate) fn plant_fields(p: Plant) -> Fields
     Fields {
         first: p.agent,
         second: p.inflexible,
-        third: p.price,
-        fourth: p.availability,
-        fifth: 0,
+        third: p.must,
+        fourth: p.price,
+        fifth: p.availability,
     }
 }
 
@@ -249,14 +249,14 @@ fn boundary_row_good(agents: &[u8], w: Words) -> bool
     ensures { λ r. ⌜ r ≡ boundaryRowGood (kindIn (now (agents .entry))) w ⌝ }
 {
     let b = rows::boundary_of(w);
-    rows::row_blank(w) & rows::boundary_good(kind_in(agents, b.agent), b)
+    rows::boundary_blank(w) & rows::boundary_good(kind_in(agents, b.agent), b)
 }
 
 fn plant_row_good(agents: &[u8], w: Words) -> bool
     ensures { λ r. ⌜ r ≡ plantRowGood (kindIn (now (agents .entry))) w ⌝ }
 {
     let p = rows::plant_of(w);
-    rows::row_blank(w) & rows::plant_good(kind_in(agents, p.agent), p)
+    rows::plant_good(kind_in(agents, p.agent), p)
 }
 
 fn contract_row_good(agents: &[u8], w: Words) -> bool

@@ -121,7 +121,7 @@ fn write_again(
     if boundaries.len() / 4 < b {
         return false;
     }
-    if plants.len() / 4 < p {
+    if plants.len() / 5 < p {
         return false;
     }
     if contracts.len() / 5 < k {
@@ -130,7 +130,7 @@ fn write_again(
     let answer = writing::write(
         &agents[..a],
         &boundaries[..4 * b],
-        &plants[..4 * p],
+        &plants[..5 * p],
         &contracts[..5 * k],
         out,
     );
@@ -151,7 +151,7 @@ fn take_and_write(
 ) -> bool {
     take_numbers(s, 1, 1, count(c.agents), agents);
     take_numbers(s, 2, 4, 4 * count(c.boundaries), boundaries);
-    take_numbers(s, 3, 4, 4 * count(c.plants), plants);
+    take_numbers(s, 3, 5, 5 * count(c.plants), plants);
     take_numbers(s, 4, 5, 5 * count(c.contracts), contracts);
     write_again(s, c, agents, boundaries, plants, contracts, out)
 }
@@ -159,7 +159,7 @@ fn take_and_write(
 fn same_again(s: &[u8], c: Counts) -> bool {
     let mut agents = [0u32; 64];
     let mut boundaries = [0u32; 1024];
-    let mut plants = [0u32; 256];
+    let mut plants = [0u32; 320];
     let mut contracts = [0u32; 1280];
     let mut out = [0u8; 10272];
     take_and_write(

@@ -11,7 +11,7 @@ use Rattle.sums.proofs.Tests.{all-true}
 use Rattle.rows.specs.Bytes.{wordsAt, wordsOf}
 use Rattle.rows.specs.Rows.{agentGood}
 use Rattle.rows.specs.declared.Words.{Words}
-use Rattle.rows.proofs.Good.{agent-blank, row-blank}
+use Rattle.rows.proofs.Good.{agent-blank, boundary-blank}
 use Rattle.rows.proofs.Trip.{Bytes, row-narrow, bytes-back}
 use Rattle.sheet.specs.Reading.{boundaryStart, plantStart, contractStart, trailerStart, countsOf, distancesGood}
 use Rattle.sheet.specs.declared.Counts.{Counts}
@@ -120,13 +120,13 @@ module _ (s : List ℕ) (c : Counts) (w : Whole s c) where
     boundary-row i h =
         let u = wordsAt s (boundaryStart c + i) in
         lies .boundary i h ∙ ap boundaryWords (sym (same .boundary i h))
-        ∙ boundary-back u (row-narrow s by _ .first) (row-blank u (w .boundaryBlanks i h))
+        ∙ boundary-back u (row-narrow s by _ .first) (boundary-blank u (w .boundaryBlanks i h))
 
     plant-row : (i : ℕ) → i < c .plants → sheetRow n (plantStart c + i) ≡ wordsAt s (plantStart c + i)
     plant-row i h =
         let u = wordsAt s (plantStart c + i) in
         lies .plant i h ∙ ap plantWords (sym (same .plant i h))
-        ∙ plant-back u (row-narrow s by _ .first) (row-blank u (w .plantBlanks i h))
+        ∙ plant-back u (row-narrow s by _ .first)
 
     contract-row : (i : ℕ) → i < c .contracts → sheetRow n (contractStart c + i) ≡ wordsAt s (contractStart c + i)
     contract-row i h =

@@ -80,16 +80,16 @@ module _ (n : Numbers) (room : ℕ) where
 pub record WholeRows (n : Numbers) : Type 0 where
   pub counts : countsGood (countsIn n) ≡ true
   pub boundaries : length (n .boundaries) ≡ 4 * countsIn n .boundaries
-  pub plants : length (n .plants) ≡ 4 * countsIn n .plants
+  pub plants : length (n .plants) ≡ 5 * countsIn n .plants
   pub contracts : length (n .contracts) ≡ 5 * countsIn n .contracts
 
 pub good-rows : (n : Numbers) → listsGood n ≡ true → WholeRows n
 good-rows n e =
     let all =
     all-true (countsGood (countsIn n))
-    (eqb (length (n .boundaries) % 4) 0 ∷ eqb (length (n .plants) % 4) 0 ∷ eqb (length (n .contracts) % 5) 0 ∷ []) e in
+    (eqb (length (n .boundaries) % 4) 0 ∷ eqb (length (n .plants) % 5) 0 ∷ eqb (length (n .contracts) % 5) 0 ∷ []) e in
     let u = eqb-true (length (n .boundaries) % 4) 0 (all .1 .0) in
-    let v = eqb-true (length (n .plants) % 4) 0 (all .1 .1 .0) in
+    let v = eqb-true (length (n .plants) % 5) 0 (all .1 .1 .0) in
     let w = eqb-true (length (n .contracts) % 5) 0 (all .1 .1 .1 .0) in
     record { counts = all .0; boundaries = omega arith; plants = omega arith; contracts = omega arith }
 
@@ -99,7 +99,7 @@ rows-good n r =
     let p = r .plants in
     let k = r .contracts in
     let x : length (n .boundaries) % 4 ≡ 0 = omega arith in
-    let y : length (n .plants) % 4 ≡ 0 = omega arith in
+    let y : length (n .plants) % 5 ≡ 0 = omega arith in
     let z : length (n .contracts) % 5 ≡ 0 = omega arith in
     and-both (and-both (and-both (r .counts) (eq-eqb _ _ x)) (eq-eqb _ _ y)) (eq-eqb _ _ z)
 

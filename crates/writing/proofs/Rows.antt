@@ -33,8 +33,12 @@ agent-narrow a h = record { first = h; second = omega arith; third = omega arith
 pub boundary-narrow : (b : Boundary) → b .import < 4294967296 → b .export < 4294967296 → Narrow (boundaryWords b)
 boundary-narrow b u v = record { first = halves-narrow _ _; second = omega arith; third = u; fourth = v }
 
-pub plant-narrow : (p : Plant) → p .price < 4294967296 → p .availability < 4294967296 → Narrow (plantWords p)
-plant-narrow p u v = record { first = halves-narrow _ _; second = omega arith; third = u; fourth = v }
+pub plant-narrow : (p : Plant)
+    → p .must < 4294967296
+    → p .price < 4294967296
+    → p .availability < 4294967296
+    → Narrow (plantWords p)
+plant-narrow p t u v = record { first = halves-narrow _ _; second = t; third = u; fourth = v }
 
 pub contract-narrow : (k : Contract)
     → k .kind < 4294967296
@@ -68,8 +72,8 @@ boundary-back w h z =
     ap (λ (x : ℕ). wordsOf x 0 (w .third) (w .fourth)) (halves-back (w .first) h)
     ∙ ap (λ (x : ℕ). wordsOf (w .first) x (w .third) (w .fourth)) (sym z)
 
-pub plant-back : (w : Words) → w .first < 4294967296 → w .second ≡ 0 → plantWords (plantOf w) ≡ w
-plant-back w h z = boundary-back w h z
+pub plant-back : (w : Words) → w .first < 4294967296 → plantWords (plantOf w) ≡ w
+plant-back w h = ap (λ (x : ℕ). wordsOf x (w .second) (w .third) (w .fourth)) (halves-back (w .first) h)
 
 pub contract-back : (w : Words) → w .first < 4294967296 → contractWords (contractOf w) ≡ w
-contract-back w h = ap (λ (x : ℕ). wordsOf x (w .second) (w .third) (w .fourth)) (halves-back (w .first) h)
+contract-back w h = plant-back w h

@@ -22,7 +22,7 @@ use Rattle.sums.proofs.Rows.{rows-at, rows-are}
 pub record Same (s : List ℕ) (c : Counts) (n : Numbers) : Type 0 where
   pub agents : length (n .agents) ≡ c .agents
   pub boundaries : length (n .boundaries) ≡ 4 * c .boundaries
-  pub plants : length (n .plants) ≡ 4 * c .plants
+  pub plants : length (n .plants) ≡ 5 * c .plants
   pub contracts : length (n .contracts) ≡ 5 * c .contracts
   pub agent : (i : ℕ) → i < c .agents → agentAt s c i ≡ agentIn (n .agents) i
   pub boundary : (i : ℕ) → i < c .boundaries → boundaryAt s c i ≡ boundaryIn (n .boundaries) i
@@ -38,13 +38,14 @@ boundary-number l q (suc (suc zero)) h = refl
 boundary-number l q (suc (suc (suc zero))) h = refl
 boundary-number l q (suc (suc (suc (suc j)))) h = absurd (omega arith)
 
-plant-number : (l : List ℕ) (q j : ℕ) → j < 4 → at l (4 * q + j) ≡ plantNumber (plantIn l q) j
+plant-number : (l : List ℕ) (q j : ℕ) → j < 5 → at l (5 * q + j) ≡ plantNumber (plantIn l q) j
 unfolding plantNumber
 plant-number l q zero h = ap (at l) (omega arith)
 plant-number l q (suc zero) h = refl
 plant-number l q (suc (suc zero)) h = refl
 plant-number l q (suc (suc (suc zero))) h = refl
-plant-number l q (suc (suc (suc (suc j)))) h = absurd (omega arith)
+plant-number l q (suc (suc (suc (suc zero)))) h = refl
+plant-number l q (suc (suc (suc (suc (suc j))))) h = absurd (omega arith)
 
 contract-number : (l : List ℕ) (q j : ℕ) → j < 5 → at l (5 * q + j) ≡ contractNumber (contractIn l q) j
 unfolding contractNumber
@@ -70,17 +71,18 @@ module _ (m q : ℕ) (h : q < m) where
         rows-at 4 m g q 3 h (omega arith),
       )
 
-  plant-made : (f : ℕ → Plant) → f q ≡ plantIn (listTo (λ k. plantNumber (f (k / 4)) (k % 4)) (4 * m)) q
+  plant-made : (f : ℕ → Plant) → f q ≡ plantIn (listTo (λ k. plantNumber (f (k / 5)) (k % 5)) (5 * m)) q
   unfolding plantNumber
   plant-made f =
       let g : ℕ → ℕ → ℕ = λ i j. plantNumber (f i) j in
-      let z : 4 * q + 0 ≡ 4 * q = omega arith in
-      let a = rw z at (rows-at 4 m g q 0 h (omega arith)) in
+      let z : 5 * q + 0 ≡ 5 * q = omega arith in
+      let a = rw z at (rows-at 5 m g q 0 h (omega arith)) in
       rw (
         a,
-        rows-at 4 m g q 1 h (omega arith),
-        rows-at 4 m g q 2 h (omega arith),
-        rows-at 4 m g q 3 h (omega arith),
+        rows-at 5 m g q 1 h (omega arith),
+        rows-at 5 m g q 2 h (omega arith),
+        rows-at 5 m g q 3 h (omega arith),
+        rows-at 5 m g q 4 h (omega arith),
       )
 
   contract-made : (f : ℕ → Contract) → f q ≡ contractIn (listTo (λ k. contractNumber (f (k / 5)) (k % 5)) (5 * m)) q
@@ -116,7 +118,7 @@ module _ (s : List ℕ) (c : Counts) (n : Numbers) (m : Same s c n) where
   pub same-counts : countsIn n ≡ c
   same-counts =
       let b : 4 * c .boundaries / 4 ≡ c .boundaries = omega arith in
-      let p : 4 * c .plants / 4 ≡ c .plants = omega arith in
+      let p : 5 * c .plants / 5 ≡ c .plants = omega arith in
       let k : 5 * c .contracts / 5 ≡ c .contracts = omega arith in
       rw (m .agents, m .boundaries, m .plants, m .contracts, b, p, k)
 
@@ -129,7 +131,7 @@ module _ (s : List ℕ) (c : Counts) (n : Numbers) (m : Same s c n) where
       let b = rows-are 4 (c .boundaries) (λ i j. boundaryNumber (boundaryAt s c i) j) (n .boundaries) (m .boundaries)
       (λ q j h l. boundary-number (n .boundaries) q j l
       ∙ ap (λ (x : Boundary). boundaryNumber x j) (sym (m .boundary q h))) in
-      let p = rows-are 4 (c .plants) (λ i j. plantNumber (plantAt s c i) j) (n .plants) (m .plants)
+      let p = rows-are 5 (c .plants) (λ i j. plantNumber (plantAt s c i) j) (n .plants) (m .plants)
       (λ q j h l. plant-number (n .plants) q j l ∙ ap (λ (x : Plant). plantNumber x j) (sym (m .plant q h))) in
       let k = rows-are 5 (c .contracts) (λ i j. contractNumber (contractAt s c i) j) (n .contracts) (m .contracts)
       (λ q j h l. contract-number (n .contracts) q j l

@@ -123,7 +123,7 @@ module _ (n : Numbers) (g : Good n) where
   plant-read : (i : ℕ) → i < c .plants → wordsAt (sheetOf n) (plantStart c + i) ≡ plantWords (plantIn (n .plants) i)
   plant-read i h =
       let f = fits-plant i h in
-      row-read _ _ (omega arith) (laid n .plant i h) (plant-narrow _ (omega arith) (omega arith))
+      row-read _ _ (omega arith) (laid n .plant i h) (plant-narrow _ (omega arith) (omega arith) (omega arith))
 
   contract-read : (i : ℕ)
       → i < c .contracts
@@ -198,7 +198,6 @@ module _ (n : Numbers) (g : Good n) where
         agents = λ i h. ap agentGood (m .agent i h) ∙ g .agents i h;
         boundaryBlanks = λ i h. rw (boundary-read i h);
         boundaries = λ i h. same-boundary (sheetOf n) c n m i h ∙ g .boundaries i h;
-        plantBlanks = λ i h. rw (plant-read i h);
         plants = λ i h. same-plant (sheetOf n) c n m i h ∙ g .plants i h;
         contracts = λ i h. same-contract (sheetOf n) c n m i h ∙ g .contracts i h;
       }

@@ -20,7 +20,7 @@ use Rattle.writing.specs.declared.Writing.{Writing}
 -- ---- refusal 2 is given exactly where this is false
 abbrev pub listsGood : Numbers → Bool
 listsGood n =
-    countsGood (countsIn n) && eqb (length (n .boundaries) % 4) 0 && eqb (length (n .plants) % 4) 0
+    countsGood (countsIn n) && eqb (length (n .boundaries) % 4) 0 && eqb (length (n .plants) % 5) 0
     && eqb (length (n .contracts) % 5) 0
 
 -- ---- refusals 3 to 6, by the tests that reading uses. An agent that is not listed has kind 0, so that a number over 65,535 is
@@ -69,4 +69,5 @@ writing (Verdict.Refused r) length = Writing.Refused r
 -- success hands back the sheet's length, which has its bytes; bytes past it keep their values; a refusal writes nothing
 pub record Written (n : Numbers) (before : List ℕ) (r : Writing) (after : List ℕ) : Type 0 where
   pub answer : r ≡ writing (writeVerdict n (length before)) (sheetLength (countsIn n))
-  pub bytes : Filled 0 before after (cells (writeVerdict n (length before)) (sheetLength (countsIn n))) (byteOf (sheetRow n))
+  pub bytes : Filled 0 before after (cells (writeVerdict n (length before)) (sheetLength (countsIn n)))
+      (byteOf (sheetRow n))

@@ -18,7 +18,7 @@ pub record Numbers : Type 0 where
   pub agents : List ℕ
   -- agent, factor, import, export
   pub boundaries : List ℕ
-  -- agent, inflexible, price, availability
+  -- agent, inflexible, must-run, price, availability
   pub plants : List ℕ
   -- seller, buyer, kind, price, quantity
   pub contracts : List ℕ
@@ -26,13 +26,13 @@ pub record Numbers : Type 0 where
 abbrev pub numbers : (agents boundaries plants contracts : List ℕ) → Numbers
 numbers a b p c = record { agents = a; boundaries = b; plants = p; contracts = c }
 
--- how many rows they are: 1, 4, 4 and 5 numbers a row
+-- how many rows they are: 1, 4, 5 and 5 numbers a row
 abbrev pub countsIn : Numbers → Counts
 countsIn n =
     record {
       agents = length (n .agents);
       boundaries = length (n .boundaries) / 4;
-      plants = length (n .plants) / 4;
+      plants = length (n .plants) / 5;
       contracts = length (n .contracts) / 5;
     }
 
@@ -46,7 +46,13 @@ boundaryIn l i =
 
 abbrev pub plantIn : List ℕ → ℕ → Plant
 plantIn l i =
-    record { agent = at l (4 * i); inflexible = at l (4 * i + 1); price = at l (4 * i + 2); availability = at l (4 * i + 3) }
+    record {
+      agent = at l (5 * i);
+      inflexible = at l (5 * i + 1);
+      must = at l (5 * i + 2);
+      price = at l (5 * i + 3);
+      availability = at l (5 * i + 4);
+    }
 
 abbrev pub contractIn : List ℕ → ℕ → Contract
 contractIn l i =
@@ -63,7 +69,9 @@ unfoldable pub boundaryNumber : Boundary → ℕ → ℕ
 boundaryNumber b j = cond (eqb j 0) (b .agent) (cond (eqb j 1) (b .factor) (cond (eqb j 2) (b .import) (b .export)))
 
 unfoldable pub plantNumber : Plant → ℕ → ℕ
-plantNumber p j = cond (eqb j 0) (p .agent) (cond (eqb j 1) (p .inflexible) (cond (eqb j 2) (p .price) (p .availability)))
+plantNumber p j =
+    cond (eqb j 0) (p .agent)
+    (cond (eqb j 1) (p .inflexible) (cond (eqb j 2) (p .must) (cond (eqb j 3) (p .price) (p .availability))))
 
 unfoldable pub contractNumber : Contract → ℕ → ℕ
 contractNumber k j =
@@ -76,5 +84,5 @@ numbersOf s c =
     numbers
     (listTo (λ k. agentAt s c k .kind) (c .agents))
     (listTo (λ k. boundaryNumber (boundaryAt s c (k / 4)) (k % 4)) (4 * c .boundaries))
-    (listTo (λ k. plantNumber (plantAt s c (k / 4)) (k % 4)) (4 * c .plants))
+    (listTo (λ k. plantNumber (plantAt s c (k / 5)) (k % 5)) (5 * c .plants))
     (listTo (λ k. contractNumber (contractAt s c (k / 5)) (k % 5)) (5 * c .contracts))

@@ -26,7 +26,7 @@ abbrev pub boundaryWords : Boundary → Words
 boundaryWords b = wordsOf (halves (b .agent) (b .factor)) 0 (b .import) (b .export)
 
 abbrev pub plantWords : Plant → Words
-plantWords p = wordsOf (halves (p .agent) (p .inflexible)) 0 (p .price) (p .availability)
+plantWords p = wordsOf (halves (p .agent) (p .inflexible)) (p .must) (p .price) (p .availability)
 
 abbrev pub contractWords : Contract → Words
 contractWords k = wordsOf (halves (k .seller) (k .buyer)) (k .kind) (k .price) (k .quantity)

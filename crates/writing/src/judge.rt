@@ -22,11 +22,11 @@ fn lists_good(agents: &[u32], boundaries: &[u32], plants: &[u32], contracts: &[u
     rows::few(
         agents.len(),
         boundaries.len() / 4,
-        plants.len() / 4,
+        plants.len() / 5,
         contracts.len() / 5,
     )
         & (boundaries.len() % 4 == 0)
-        & (plants.len() % 4 == 0)
+        & (plants.len() % 5 == 0)
         & (contracts.len() % 5 == 0)
 }
 
@@ -66,7 +66,7 @@ fn boundary_listed(agents: &[u32], boundaries: &[u32], i: usize) -> Verdict
 }
 
 fn plant_listed(agents: &[u32], plants: &[u32], i: usize) -> Verdict
-    requires { ⌜ (4 * i + 4 ≤ length (now plants)) × (i < 4294967296) ⌝ }
+    requires { ⌜ (5 * i + 5 ≤ length (now plants)) × (i < 4294967296) ⌝ }
     ensures { λ r. ⌜ r ≡ plantListed (now (agents .entry)) (now (plants .entry)) i ⌝ }
 {
     let p = lists::plant_in(plants, i);

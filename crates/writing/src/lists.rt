@@ -23,7 +23,7 @@ pub(crate) fn counts_in(
     Counts {
         agents: agents.len(),
         boundaries: boundaries.len() / 4,
-        plants: plants.len() / 4,
+        plants: plants.len() / 5,
         contracts: contracts.len() / 5,
     }
 }
@@ -65,15 +65,16 @@ pub(crate) fn boundary_in(l: &[u32], i: usize) -> Boundary
 }
 
 pub(crate) fn plant_in(l: &[u32], i: usize) -> Plant
-    requires { ⌜ 4 * i + 4 ≤ length (now l) ⌝ }
+    requires { ⌜ 5 * i + 5 ≤ length (now l) ⌝ }
     ensures { λ r. ⌜ r ≡ plantIn (now (l .entry)) i ⌝ }
 {
-    let k = 4 * i;
+    let k = 5 * i;
     Plant {
         agent: l[k],
         inflexible: l[k + 1],
-        price: l[k + 2],
-        availability: l[k + 3],
+        must: l[k + 2],
+        price: l[k + 3],
+        availability: l[k + 4],
     }
 }
 

@@ -51,7 +51,7 @@ fn plant_words(p: Plant) -> Words
 {
     Words {
         first: join(p.agent, p.inflexible),
-        second: 0,
+        second: p.must,
         third: p.price,
         fourth: p.availability,
     }
@@ -108,7 +108,7 @@ fn row_words(
 {
     let a = agents.len();
     let b = a + boundaries.len() / 4;
-    let p = b + plants.len() / 4;
+    let p = b + plants.len() / 5;
     let k = p + contracts.len() / 5;
     if r < a {
         agent_words(lists::agent_in(agents, r))

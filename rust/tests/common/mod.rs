@@ -132,7 +132,9 @@ fn offers(random: &mut Random, rows: &mut Rows, count: usize, generators: &[u32]
     for part in parts {
         let price = random.pick(&prices);
         let inflexible = random.once_in(4) as u32;
-        rows.plants.push([random.pick(generators), inflexible, price, part as u32]);
+        let some = random.below(part + 1);
+        let must_run = if inflexible == 0 { 0 } else { random.pick(&[0, 1.min(part), part / 3, some, part]) };
+        rows.plants.push([random.pick(generators), inflexible, must_run as u32, price, part as u32]);
     }
 }
 
@@ -178,7 +180,9 @@ pub fn extreme(random: &mut Random) -> Rows {
         });
     }
     for i in 0..64 {
-        rows.plants.push([i % generators, random.once_in(4) as u32, random.pick(&[0, PRICE, PRICE]), ENERGY]);
+        let inflexible = random.once_in(4) as u32;
+        let must_run = if random.once_in(3) { inflexible * ENERGY } else { 0 };
+        rows.plants.push([i % generators, inflexible, must_run, random.pick(&[0, PRICE, PRICE]), ENERGY]);
     }
     for i in 0..256 {
         let (kind, price) = (random.pick(&kinds), random.pick(&[0, PRICE]));
@@ -233,7 +237,7 @@ pub fn edge(random: &mut Random, rows: &mut Rows) {
             rows.boundaries[i][k] = value;
         }
         2 if !rows.plants.is_empty() => {
-            let (i, k) = (row(rows.plants.len()), row(4));
+            let (i, k) = (row(rows.plants.len()), row(5));
             rows.plants[i][k] = value;
         }
         3 if !rows.contracts.is_empty() => {
@@ -261,7 +265,7 @@ fn wrong_party(random: &mut Random, rows: &mut Rows) {
 
 /// A balance that fails, or fails by one.
 fn imbalance(random: &mut Random, rows: &mut Rows) {
-    let turn = random.below(4);
+    let turn = random.below(6);
     let kind_of = |agent: u32| rows.agents.get(agent as usize).copied().unwrap_or(0);
     let of_kind =
         |kind: u32| -> Vec<usize> { (0..rows.boundaries.len()).filter(|&j| kind_of(rows.boundaries[j][0]) == kind).collect() };
@@ -291,8 +295,28 @@ fn imbalance(random: &mut Random, rows: &mut Rows) {
             let offered = demand.saturating_sub(random.below(2));
             spread(random, offered, ENERGY as u64, &mut parts);
             for (plant, part) in rows.plants.iter_mut().zip(parts) {
-                plant[3] = part as u32;
+                plant[4] = part as u32;
+                plant[2] = plant[2].min(plant[4]);
             }
+        }
+        // 13: the plants must run the demand, or one more
+        4 if !rows.plants.is_empty() => {
+            let demand: u64 = generating.iter().map(|&j| rows.boundaries[j][3] as u64).sum();
+            let mut parts = vec![0; rows.plants.len()];
+            let forced = demand + random.below(2);
+            spread(random, forced, ENERGY as u64, &mut parts);
+            for (plant, part) in rows.plants.iter_mut().zip(parts) {
+                plant[1] = 1;
+                plant[2] = part as u32;
+                plant[4] = plant[4].max(plant[2]);
+            }
+        }
+        // 5: a must-run at its bound, or one over it
+        5 if !rows.plants.is_empty() => {
+            let i = random.below(rows.plants.len() as u64) as usize;
+            let plant = &mut rows.plants[i];
+            let bound = if plant[1] == 0 { 0 } else { plant[4] };
+            plant[2] = bound.saturating_add(random.range(0, 1));
         }
         _ => {}
     }
@@ -304,7 +328,7 @@ fn crowd(random: &mut Random, rows: &mut Rows) {
     match random.below(4) {
         0 => rows.agents.resize(64 + more, 1),
         1 => rows.boundaries.resize(256 + more, [0, 0, 0, 0]),
-        2 => rows.plants.resize(64 + more, [0, 0, 0, 0]),
+        2 => rows.plants.resize(64 + more, [0, 0, 0, 0, 0]),
         _ => rows.contracts.resize(256 + more, [0, 1, 1, 0, 0]),
     }
 }

@@ -93,7 +93,8 @@ verdict c =
     let b = judge-to-weigh c .weigh .result in
     c .judge .ensures
     ∙ ap (λ (x : Bool). lateVerdict (b .verdict) (b .demand)
-    (sum (plants (sheet (judge-to-weigh c))) (at (sheet (judge-to-weigh c) .available))) x)
+    (sum (plants (sheet (judge-to-weigh c))) (at (sheet (judge-to-weigh c) .available)))
+    (sum (plants (sheet (judge-to-weigh c))) (at (sheet (judge-to-weigh c) .mustRun))) x)
     ((c .before) .has-room .ensures)
     ∙ verdict-is _ (lists (judge-to-start c)) _ (judge-to-weigh c .weigh .ensures)
 
@@ -126,7 +127,8 @@ trade-requires c κs =
       (
         record {
           demand = o .demand;
-          enough = o .cover;
+          enough = o .cover .enough;
+          runs = o .cover .runs;
           fits = o .room .schedule;
           commercial = filled-count 0 _ _ _ _ _ (sym (count (trade-arg2-to-weigh c))) (o .commercial);
         },

@@ -7,7 +7,7 @@ returns c =
     rw (
       c .boundary-good .ensures,
       c .before .kind-in .ensures,
-      c .before .before .row-blank .ensures,
+      c .before .before .boundary-blank .ensures,
       c .before .before .before .boundary-of .ensures,
     )
 
