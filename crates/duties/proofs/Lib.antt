@@ -1,3 +1,5 @@
 pub mod Steps
+pub mod Alike
 pub mod Stages
 pub mod Duties
+pub mod Confidence

@@ -19,7 +19,7 @@ use Rattle.hour.proofs.Verdicts.{Uncovered, cover-told, room-fine}
 use Rattle.hour.proofs.Balance.{refused-exactly}
 use Rattle.settle.specs.Settled.{verdictOf, Settled}
 use Rattle.duties.specs.Result.{plantsOf, PossibleFor, Passes, Untouched}
-use Rattle.columns.proofs.Numbers.{read-between, balance-between, cover-between, room-between, inOrder, listed, early-passed, late-number, not-uncovered}
+use Rattle.columns.proofs.Numbers.{Between, read-between, balance-between, cover-between, room-between, inOrder, listed, early-passed, late-number, not-uncovered}
 use Rattle.duties.proofs.Steps.{verdict-is, number-is, passes-sound, Hour}
 
 module _ (bytes : List ℕ) {before after : Lent} {r : Summary} (done : Settled bytes before after r) where
@@ -121,3 +121,27 @@ module _ (bytes : List ℕ) {before after : Lent} {r : Summary} (done : Settled 
                   room-fine (hourOf bytes) before room,
                 );
           }
+
+-- ---- a settlement that returns 0
+zero-fine : (c m : Verdict) → Between 10 13 c → Between 11 11 m → numberOf (inOrder Verdict.Fine Verdict.Fine c m) ≡ 0
+    → (c ≡ Verdict.Fine) × (m ≡ Verdict.Fine)
+zero-fine Verdict.Fine Verdict.Fine hc hm e = (refl, refl)
+zero-fine Verdict.Fine (Verdict.Refused q) hc hm e = absurd (omega arith)
+zero-fine (Verdict.Refused q) m hc hm e = absurd (omega arith)
+
+pub settled-hour : (bytes : List ℕ) {before after : Lent} {r : Summary}
+    → Settled bytes before after r
+    → r .number ≡ 0
+    → Hour bytes before after r
+settled-hour bytes {before} {after} {r} done e =
+    let passes = number-passes bytes done (inl e) in
+    let (c, m) =
+    zero-fine (coverVerdict (hourOf bytes)) (roomVerdict (hourOf bytes) before) (cover-between (hourOf bytes))
+    (room-between (hourOf bytes) before)
+    (sym (late bytes done passes) ∙ e) in
+    record {
+      done = done;
+      passes = passes;
+      cover = c;
+      fine = verdict-is bytes before ∙ rw (passes .read, passes .balance, c, m);
+    }

@@ -62,7 +62,7 @@ pub record Hour (bytes : List ℕ) (before after : Lent) (r : Summary) : Type 0 
   pub fine : verdictOf bytes before ≡ Verdict.Fine
 
 module _ {bytes : List ℕ} {before after : Lent} {r : Summary} (h : Hour bytes before after r) where
-  summary-is : r ≡ summaryOf Verdict.Fine (hourOf bytes)
+  pub summary-is : r ≡ summaryOf Verdict.Fine (hourOf bytes)
   summary-is = h .done .answered ∙ rw (h .fine)
 
   pub number-none : r .number ≡ 0
@@ -75,7 +75,7 @@ module _ {bytes : List ℕ} {before after : Lent} {r : Summary} (h : Hour bytes 
   losses-is = ap (λ (x : Summary). x .losses) summary-is
 
   -- ---- the lists, cell by cell
-  figure-at : (k : ℕ) → k < cellsPerAgent * agentsOf bytes → at (after .figures) k ≡ figure (hourOf bytes) k
+  pub figure-at : (k : ℕ) → k < cellsPerAgent * agentsOf bytes → at (after .figures) k ≡ figure (hourOf bytes) k
   figure-at k l = h .done .figures .done k (rw (h .fine) l)
 
   share-at : (a : ℕ) → a < agentsOf bytes → shareIn after a ≡ lossShare (hourOf bytes) a
@@ -90,17 +90,17 @@ module _ {bytes : List ℕ} {before after : Lent} {r : Summary} (h : Hour bytes 
   sold-at : (a : ℕ) → a < agentsOf bytes → soldIn after a ≡ sold (hourOf bytes) a
   sold-at a l = figure-at (cellsPerAgent * a + 5) (omega arith) ∙ figure-sold (hourOf bytes) a
 
-  money-at : (a : ℕ) → a < agentsOf bytes → moneyIn after a ≡ money (hourOf bytes) a
+  pub money-at : (a : ℕ) → a < agentsOf bytes → moneyIn after a ≡ money (hourOf bytes) a
   money-at a l = h .done .money .done a (rw (h .fine) l)
 
   schedule-at : (i : ℕ) → i < plantsOf bytes → scheduleIn after i ≡ scheduled (hourOf bytes) i
   schedule-at i l = h .done .schedule .done i (rw (h .fine) l)
 
-  amount-at : (j : ℕ) → j < contractsOf bytes → amountIn after j ≡ amount (hourOf bytes) j
+  pub amount-at : (j : ℕ) → j < contractsOf bytes → amountIn after j ≡ amount (hourOf bytes) j
   amount-at j l = h .done .amounts .done j (rw (h .fine) l)
 
   -- ---- the laws of the hour, of the lists
-  sheet-sound : Sound (hourOf bytes)
+  pub sheet-sound : Sound (hourOf bytes)
   sheet-sound = passes-sound bytes (h .passes)
 
   sheet-balanced : Balanced (hourOf bytes)
