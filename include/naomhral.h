@@ -38,6 +38,7 @@
 #define NAOMHRAL_READ_ANSWER 6
 #define NAOMHRAL_WRITE_ANSWER 3
 #define NAOMHRAL_PAGE_ANSWER 3
+#define NAOMHRAL_CHECK_ANSWER 2
 
 /* The refusals. Number 12 of docs/USING.md, a row or section that isn't there, comes from none of these functions. */
 enum {
@@ -53,7 +54,13 @@ enum {
     NAOMHRAL_UNSHARED = 9,
     NAOMHRAL_UNCOVERED = 10,
     NAOMHRAL_NO_ROOM = 11,
-    NAOMHRAL_OVERRUN = 13 /* must-runs sum to more than the demand; after 10 and before 11 */
+    NAOMHRAL_OVERRUN = 13, /* must-runs sum to more than the demand; after 10 and before 11 */
+    /* of a statement alone: the first of the five points that fails */
+    NAOMHRAL_SHARES_DIFFER = 21,
+    NAOMHRAL_SCHEDULE_DIFFERS = 22,
+    NAOMHRAL_PRICE_DIFFERS = 23,
+    NAOMHRAL_AMOUNTS_DIFFER = 24,
+    NAOMHRAL_LINES_DIFFER = 25
 };
 
 #ifdef __cplusplus
@@ -74,6 +81,25 @@ uint32_t naomhral_settle(
     size_t amounts_length, /* at least the contracts */
     uint32_t *summary, /* number, place, price (centavos per kWh), demand and losses (kWh); the last three are 0 if refused */
     size_t summary_length /* at least 5 */
+);
+
+/* Checks an administrator's statement of a sheet's hour: a price and the four lists, in the shape in which naomhral_settle leaves
+ * them. Every statement that could be right is accepted, and no other. Refusals 1 to 10, 13 and 11 as in settling the sheet, where 11
+ * is a list too short for the counts; then 21 to 25. Nothing but the answer is written. */
+uint32_t naomhral_check(
+    const uint8_t *sheet, /* the sheet's bytes */
+    size_t sheet_length, /* how many */
+    uint32_t price, /* their price, centavos per kWh */
+    const uint32_t *figures, /* six cells an agent */
+    size_t figures_length, /* at least 6 times the agents; cells past those needed are not looked at, here and below */
+    const int64_t *money, /* one cell an agent, centavos */
+    size_t money_length, /* at least the agents */
+    const uint32_t *schedule, /* one cell a plant, kWh */
+    size_t schedule_length, /* at least the plants */
+    const uint32_t *amounts, /* one cell a contract, kWh */
+    size_t amounts_length, /* at least the contracts */
+    uint32_t *answer, /* number and place, 0 and 0 where it is accepted */
+    size_t answer_length /* at least 2 */
 );
 
 /* Reads a sheet and counts its rows. Refusals 1 to 6. */

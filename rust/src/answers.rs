@@ -21,6 +21,11 @@ impl Refusal {
     pub const NO_ROOM: u32 = 11;
     pub const NOT_THERE: u32 = 12;
     pub const OVERRUN: u32 = 13;
+    pub const SHARES: u32 = 21;
+    pub const SCHEDULE: u32 = 22;
+    pub const PRICE: u32 = 23;
+    pub const AMOUNTS: u32 = 24;
+    pub const LINES: u32 = 25;
 
     pub const fn new(number: u32, place: u32) -> Refusal {
         Refusal { number, place }
@@ -42,6 +47,11 @@ impl Refusal {
             Refusal::NO_ROOM => "a lent list or buffer is too short",
             Refusal::NOT_THERE => "no such row or section",
             Refusal::OVERRUN => "must-runs sum to more than the demand",
+            Refusal::SHARES => "the statement's loss shares do not follow",
+            Refusal::SCHEDULE => "the statement's schedule does not follow",
+            Refusal::PRICE => "the statement's price does not follow",
+            Refusal::AMOUNTS => "the statement's contract amounts do not follow",
+            Refusal::LINES => "the statement's lines do not follow",
             _ => "an unknown refusal",
         }
     }

@@ -82,6 +82,40 @@ pub fn settle(
     Ok(Summary { price, demand, losses })
 }
 
+/// Checks an administrator's statement of a sheet's hour: a price and the four lists, in the shape in which [`settle`] leaves
+/// them. Every statement that could be right is accepted, and no other. Refusals 1 to 10, 13 and 11 as in settling the sheet,
+/// then 21 to 25 for the first of the five points that fails. Cells past those needed are not looked at.
+pub fn check(
+    sheet: &[u8],
+    price: u32,
+    figures: &[u32],
+    money: &[i64],
+    schedule: &[u32],
+    amounts: &[u32],
+) -> Result<(), Refusal> {
+    let mut answer = [0u32; 2];
+    // As in `settle`.
+    unsafe {
+        raw::naomhral_check(
+            sheet.as_ptr(),
+            sheet.len(),
+            price,
+            figures.as_ptr(),
+            figures.len(),
+            money.as_ptr(),
+            money.len(),
+            schedule.as_ptr(),
+            schedule.len(),
+            amounts.as_ptr(),
+            amounts.len(),
+            answer.as_mut_ptr(),
+            answer.len(),
+        );
+    }
+    let [number, place] = answer;
+    refusal_of(number, place)
+}
+
 /// Reads a sheet and hands back its counts. Refusals 1 to 6.
 pub fn read(sheet: &[u8]) -> Result<Counts, Refusal> {
     let mut answer = [0u32; 6];

@@ -17,6 +17,22 @@ extern "C" {
         summary_length: usize,
     ) -> u32;
 
+    pub fn naomhral_check(
+        sheet: *const u8,
+        sheet_length: usize,
+        price: u32,
+        figures: *const u32,
+        figures_length: usize,
+        money: *const i64,
+        money_length: usize,
+        schedule: *const u32,
+        schedule_length: usize,
+        amounts: *const u32,
+        amounts_length: usize,
+        answer: *mut u32,
+        answer_length: usize,
+    ) -> u32;
+
     pub fn naomhral_read(sheet: *const u8, sheet_length: usize, answer: *mut u32, answer_length: usize) -> u32;
 
     pub fn naomhral_write(

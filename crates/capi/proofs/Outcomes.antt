@@ -8,7 +8,7 @@ use Rattle.refusals.specs.declared.Verdict.{Verdict}
 use Rattle.hour.specs.Answer.{Lent}
 use Rattle.writing.specs.Numbers.{Numbers}
 use Rattle.settle.specs.Settled.{lent}
-use Rattle.capi.specs.Told.{Told, BytesTold, ShareTold, ReadTold, WriteTold, SettleTold, PageTold}
+use Rattle.capi.specs.Told.{Told, BytesTold, ShareTold, ReadTold, CheckTold, WriteTold, SettleTold, PageTold}
 
 pub share-unique : (amount : ℕ) (weights before after after′ : List ℕ) (r r′ : ℕ)
     → ShareTold amount weights before r after
@@ -28,6 +28,12 @@ pub read-unique : (sheet before after after′ : List ℕ) (r r′ : ℕ)
     → ReadTold sheet before r′ after′
     → (r ≡ r′) × (after ≡ after′)
 read-unique sheet before after after′ r r′ = told-unique _ _ before after after′ r r′
+
+pub check-unique : (sheet : List ℕ) (price : ℕ) (l : Lent) (before after after′ : List ℕ) (r r′ : ℕ)
+    → CheckTold sheet price l before r after
+    → CheckTold sheet price l before r′ after′
+    → (r ≡ r′) × (after ≡ after′)
+check-unique sheet price l before after after′ r r′ = told-unique _ _ before after after′ r r′
 
 bytes-unique : (v : Verdict) (size : ℕ) (byte : ℕ → ℕ) (before list : List ℕ) (r r′ : ℕ)
     (after after′ list₁ list₂ : List ℕ)

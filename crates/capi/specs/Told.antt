@@ -17,6 +17,7 @@ use Rattle.columns.specs.Columns.{hourOf}
 use Rattle.hour.specs.Answer.{Lent, summaryOf}
 use Rattle.hour.specs.declared.Summary.{Summary}
 use Rattle.settle.specs.Settled.{verdictOf, Outcome}
+use Rattle.checking.specs.Check.{checkVerdict}
 use Rattle.page.specs.Page.{pageText}
 use Rattle.writing.specs.Numbers.{Numbers, countsIn}
 use Rattle.writing.specs.Words.{sheetRow}
@@ -39,6 +40,14 @@ readAnswer (Reading.Refused r) = r .number ∷ r .place ∷ 0 ∷ 0 ∷ 0 ∷ 0 
 
 abbrev pub ReadTold : (sheet before : List ℕ) → ℕ → (after : List ℕ) → Type 0
 ReadTold sheet = Told 6 (readAnswer (readOf sheet))
+
+-- checking a statement: number and place
+abbrev pub checkAnswer : Verdict → List ℕ
+checkAnswer Verdict.Fine = 0 ∷ 0 ∷ []
+checkAnswer (Verdict.Refused r) = r .number ∷ r .place ∷ []
+
+abbrev pub CheckTold : (sheet : List ℕ) (price : ℕ) (l : Lent) (before : List ℕ) → ℕ → (after : List ℕ) → Type 0
+CheckTold sheet price l = Told 2 (checkAnswer (checkVerdict sheet price l))
 
 -- bytes put into a lent buffer: number, place, and the length written, 0 where refused; and the bytes
 abbrev pub lengthAnswer : Verdict → (size : ℕ) → List ℕ

@@ -6,7 +6,8 @@ ghost use Rattle.sums.specs.Lists.{at, Filled};
 ghost use Rattle.refusals.specs.Refusals.{numberOf};
 ghost use Rattle.sheet.specs.Reading.{readOf};
 ghost use Rattle.writing.specs.Numbers.{numbers};
-ghost use Rattle.capi.specs.Told.{ShareTold, ReadTold, WriteTold, SettleTold, PageTold};
+ghost use Rattle.capi.specs.Told.{ShareTold, ReadTold, WriteTold, SettleTold, CheckTold, PageTold};
+ghost use Rattle.checking.specs.Check.{stated};
 ghost use Rattle.settle.specs.Settled.{lent};
 use printing::Printed;
 use refusals::Refusal;
@@ -121,6 +122,36 @@ pub extern "C" fn naomhral_settle(
     let numbers = [s.number, s.place, s.price, s.demand, s.losses];
     tell(&numbers, summary);
     s.number
+}
+
+// Checks an administrator's statement of a sheet's hour: number and place go to the answer list, and the number is returned.
+#[no_mangle]
+pub extern "C" fn naomhral_check(
+    sheet: &[u8],
+    price: u32,
+    figures: &[u32],
+    money: &[i64],
+    schedule: &[u32],
+    amounts: &[u32],
+    answer: &mut [u32],
+) -> u32
+    ensures { λ r. ⌜ CheckTold (now (sheet .entry)) price (stated (now (figures .entry)) (now (money .entry)) (now (schedule .entry)) (now (amounts .entry))) (now (answer .entry)) r (now (answer .exit)) ⌝ }
+{
+    if answer.len() < 2 {
+        return Refusal::ROOM;
+    }
+    match checking::check(sheet, price, figures, money, schedule, amounts) {
+        Verdict::Fine => {
+            let numbers = [0, 0];
+            tell(&numbers, answer);
+            0
+        }
+        Verdict::Refused(why) => {
+            let numbers = [why.number, why.place];
+            tell(&numbers, answer);
+            why.number
+        }
+    }
 }
 
 // Puts a sheet's page into a lent buffer: number, place and length go to the answer list, and the number is returned.

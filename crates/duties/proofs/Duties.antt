@@ -11,11 +11,11 @@ use Rattle.sums.specs.Sums.{sum, pick}
 use Rattle.columns.specs.Columns.{hourOf}
 use Rattle.hour.specs.Balance.{hourDemand}
 use Rattle.hour.specs.Signed.{signedSum}
-use Rattle.hour.specs.Answer.{Lent, Roomy}
+use Rattle.hour.specs.Answer.{Lent, Roomy, shareIn, contractedIn, boughtIn, soldIn, moneyIn, scheduleIn, amountIn}
 use Rattle.hour.specs.declared.Summary.{Summary}
 use Rattle.settle.specs.Settled.{Settled}
 use Rattle.settle.proofs.Judged.{settled-unique}
-use Rattle.duties.specs.Result.{agentsOf, contractsOf, retailerIn, generatorIn, generatedIn, PossibleFor, costOf, Passes, Untouched, shareIn, contractedIn, boughtIn, soldIn, moneyIn, scheduleIn, amountIn}
+use Rattle.duties.specs.Result.{agentsOf, contractsOf, retailerIn, generatorIn, generatedIn, PossibleFor, costOf, Passes, Untouched}
 use Rattle.duties.proofs.Steps.{Hour, number-none, list-possible, list-cheapest, list-balanced, demand-generated, list-shares, list-buyers, list-sellers, list-money}
 use Rattle.duties.proofs.Stages.{number-known, number-tells, refused-leaves, impossible-tells, the-hour}
 

@@ -3,3 +3,5 @@ pub mod Alike
 pub mod Stages
 pub mod Duties
 pub mod Confidence
+pub mod Checks
+pub mod Statements

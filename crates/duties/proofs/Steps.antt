@@ -18,16 +18,16 @@ use Rattle.hour.specs.Sound.{Sound}
 use Rattle.hour.specs.Balance.{losses, lossShare, hourDemand}
 use Rattle.hour.specs.Lines.{scheduled, amount, contracted, bought, sold, money, cellsPerAgent, figure}
 use Rattle.hour.specs.Signed.{signedSum}
-use Rattle.hour.specs.Answer.{Lent, balanceVerdict, coverVerdict, roomVerdict, hourVerdict, summaryOf}
+use Rattle.hour.specs.Answer.{Lent, shareIn, contractedIn, boughtIn, soldIn, moneyIn, scheduleIn, amountIn, balanceVerdict, coverVerdict, roomVerdict, hourVerdict, summaryOf}
 use Rattle.hour.specs.declared.Summary.{Summary}
 use Rattle.hour.proofs.Verdicts.{Balanced, balanced}
-use Rattle.hour.proofs.Cells.{figure-share, figure-contracted, figure-bought, figure-sold}
+use Rattle.hour.proofs.Cells.{share-told, contracted-told, bought-told, sold-told}
 use Rattle.hour.proofs.Money.{signed-eq}
 use Rattle.hour.proofs.Demand.{loss-shares, demand-delivered, generators-metered}
 use Rattle.hour.proofs.Balance.{schedule-possible, schedule-cheapest, contracted-buyers, contracted-sellers, bought-sold, money-none}
 use Rattle.columns.proofs.Columns.{sound}
 use Rattle.settle.specs.Settled.{verdictOf, Settled}
-use Rattle.duties.specs.Result.{agentsOf, plantsOf, contractsOf, retailerIn, generatorIn, generatedIn, PossibleFor, costOf, Passes, shareIn, contractedIn, boughtIn, soldIn, moneyIn, scheduleIn, amountIn}
+use Rattle.duties.specs.Result.{agentsOf, plantsOf, contractsOf, retailerIn, generatorIn, generatedIn, PossibleFor, costOf, Passes}
 use Rattle.refusals.specs.Refusals.{numberOf}
 use Rattle.columns.proofs.Numbers.{inOrder}
 
@@ -79,16 +79,16 @@ module _ {bytes : List ℕ} {before after : Lent} {r : Summary} (h : Hour bytes 
   figure-at k l = h .done .figures .done k (rw (h .fine) l)
 
   share-at : (a : ℕ) → a < agentsOf bytes → shareIn after a ≡ lossShare (hourOf bytes) a
-  share-at a l = figure-at (cellsPerAgent * a) (omega arith) ∙ figure-share (hourOf bytes) a
+  share-at = share-told (hourOf bytes) after figure-at
 
   contracted-at : (a : ℕ) → a < agentsOf bytes → contractedIn after a ≡ contracted (hourOf bytes) a
-  contracted-at a l = figure-at (cellsPerAgent * a + 3) (omega arith) ∙ figure-contracted (hourOf bytes) a
+  contracted-at = contracted-told (hourOf bytes) after figure-at
 
   bought-at : (a : ℕ) → a < agentsOf bytes → boughtIn after a ≡ bought (hourOf bytes) a
-  bought-at a l = figure-at (cellsPerAgent * a + 4) (omega arith) ∙ figure-bought (hourOf bytes) a
+  bought-at = bought-told (hourOf bytes) after figure-at
 
   sold-at : (a : ℕ) → a < agentsOf bytes → soldIn after a ≡ sold (hourOf bytes) a
-  sold-at a l = figure-at (cellsPerAgent * a + 5) (omega arith) ∙ figure-sold (hourOf bytes) a
+  sold-at = sold-told (hourOf bytes) after figure-at
 
   pub money-at : (a : ℕ) → a < agentsOf bytes → moneyIn after a ≡ money (hourOf bytes) a
   money-at a l = h .done .money .done a (rw (h .fine) l)

@@ -1,10 +1,8 @@
 -- Words for the duties: the hour that the bytes tell, and what settling hands back in the lent lists. Assumes nothing.
-use Prim.Native.Nat.{ℕ, _+_, _*_}
+use Prim.Native.Nat.{ℕ}
 use mathlib.Core.Bool.{Bool, not}
 use mathlib.Core.List.{List}
 use mathlib.Core.Path.{_≡_}
-use lib.IntN.{ℤ, pos}
-use lib.ListN.{getD}
 use Rattle.sums.specs.Lists.{at}
 use Rattle.refusals.specs.declared.Verdict.{Verdict}
 use Rattle.merit.specs.Merit.{Possible, cost}
@@ -48,28 +46,6 @@ costOf bytes q = cost (at (hourOf bytes .offers)) (plantsOf bytes) q
 pub record Passes (bytes : List ℕ) : Type 0 where
   pub read : readVerdict bytes ≡ Verdict.Fine
   pub balance : balanceVerdict (hourOf bytes) ≡ Verdict.Fine
-
--- ---- the lent lists by agent, plant and contract
-abbrev pub shareIn : Lent → ℕ → ℕ
-shareIn l a = at (l .figures) (cellsPerAgent * a)
-
-abbrev pub contractedIn : Lent → ℕ → ℕ
-contractedIn l a = at (l .figures) (cellsPerAgent * a + 3)
-
-abbrev pub boughtIn : Lent → ℕ → ℕ
-boughtIn l a = at (l .figures) (cellsPerAgent * a + 4)
-
-abbrev pub soldIn : Lent → ℕ → ℕ
-soldIn l a = at (l .figures) (cellsPerAgent * a + 5)
-
-abbrev pub moneyIn : Lent → ℕ → ℤ
-moneyIn l a = getD (l .money) a (pos 0)
-
-abbrev pub scheduleIn : Lent → ℕ → ℕ
-scheduleIn l i = at (l .schedule) i
-
-abbrev pub amountIn : Lent → ℕ → ℕ
-amountIn l j = at (l .amounts) j
 
 -- nothing is returned but a number and a place, and the lists are as they were
 pub record Untouched (before after : Lent) (r : Summary) : Type 0 where

@@ -16,8 +16,8 @@ use Rattle.merit.specs.Merit.{Possible, cost}
 use Rattle.merit.proofs.MustRun.{ideal-possible, ideal-least, ideal-none}
 use Rattle.hour.specs.Sheet.{Sheet, agents, plants, contracts, retails}
 use Rattle.hour.specs.Sound.{Sound}
-use Rattle.hour.specs.Balance.{imported, exported, consumption, ownImport, commercial, hourDemand}
-use Rattle.hour.specs.Lines.{scheduled, bolsaPrice, amount, own, contracted, bought, sold, money}
+use Rattle.hour.specs.Balance.{imported, exported, consumption, ownImport, commercial, demandBy, hourDemand}
+use Rattle.hour.specs.Lines.{scheduled, bolsaPrice, amount, Basis, ownBy, contractedBy, boughtOf, soldOf, basisOf, own, contracted, bought, sold, moneyOf, money}
 use Rattle.hour.specs.Signed.{signedSum}
 use Rattle.hour.specs.Answer.{coverVerdict}
 use Rattle.refusals.proofs.Fine.{not-fine}
@@ -92,110 +92,141 @@ keyed-kind : (t : ℕ → Bool) (key v : ℕ → ℕ) (m : ℕ) (b : Bool)
 keyed-kind t key v m true h a e = keyed-absent key v m a (λ j l q. false≢true (sym e ∙ (sym (ap t q) ∙ h j l)))
 keyed-kind t key v m false h a e = keyed-absent key v m a (λ j l q. false≢true (sym (sym (ap t q) ∙ h j l) ∙ e))
 
+-- ---- the lines, worked out from any demands, schedule and amounts t: the laws of this section ask no more than they name
+
 -- what agent a's plants are scheduled to deliver, and what it holds as buyer and as seller
-module _ (s : Sheet) where
+module _ (s : Sheet) (t : Basis) where
   abbrev made : ℕ → ℕ
-  made a = keyed (at (s .holders)) (scheduled s) (plants s) a
+  made a = keyed (at (s .holders)) (t .schedule) (plants s) a
 
   abbrev buys : ℕ → ℕ
-  buys a = keyed (at (s .deals .buyers)) (amount s) (contracts s) a
+  buys a = keyed (at (s .deals .buyers)) (t .amount) (contracts s) a
 
   abbrev sells : ℕ → ℕ
-  sells a = keyed (at (s .sellers)) (amount s) (contracts s) a
+  sells a = keyed (at (s .sellers)) (t .amount) (contracts s) a
+
+-- generators have no commercial demand
+abbrev pub Idle : Sheet → (demand : ℕ → ℕ) → Type 0
+Idle s demand = (a : ℕ) → a < agents s → retails s a ≡ false → demand a ≡ 0
 
 module _ (s : Sheet) (ok : Sound s) where
-  retailer-made : (a : ℕ) → retails s a ≡ true → made s a ≡ 0
-  retailer-made a e =
-      keyed-kind (retails s) (at (s .holders)) (scheduled s) (plants s) false (λ i l. ok .plant i l .generator) a e
-
-  retailer-sells : (a : ℕ) → retails s a ≡ true → sells s a ≡ 0
-  retailer-sells a e =
-      keyed-kind (retails s) (at (s .sellers)) (amount s) (contracts s) false (λ j l. ok .contract j l .generator) a e
-
-  generator-buys : (a : ℕ) → retails s a ≡ false → buys s a ≡ 0
-  generator-buys a e =
-      keyed-kind (retails s) (at (s .deals .buyers)) (amount s) (contracts s) true (λ j l. ok .contract j l .retailer)
-      a e
-
-  -- nobody does both: what an agent bought and what it sold under contract, together, are what it holds
-  pub contracted-both : (a : ℕ)
-      → keyed (at (s .deals .buyers)) (amount s) (contracts s) a + keyed (at (s .sellers)) (amount s) (contracts s) a
-      ≡ contracted s a
-  unfolding contracted
-  contracted-both a = go (retails s a) refl
-    where
-      go : (t : Bool) → retails s a ≡ t → buys s a + sells s a ≡ cond t (buys s a) (sells s a)
-      go true e = omega (arith, retailer-sells a e)
-      go false e = omega (arith, generator-buys a e)
-
-  all-made : sum (agents s) (made s) ≡ sum (plants s) (scheduled s)
-  all-made = keyed-total (at (s .holders)) (scheduled s) (agents s) (plants s) (λ i l. ok .plant i l .there)
-
-  all-buys : sum (agents s) (buys s) ≡ sum (contracts s) (amount s)
-  all-buys =
-      keyed-total (at (s .deals .buyers)) (amount s) (agents s) (contracts s) (λ j l. ok .contract j l .buyerThere)
-
-  all-sells : sum (agents s) (sells s) ≡ sum (contracts s) (amount s)
-  all-sells = keyed-total (at (s .sellers)) (amount s) (agents s) (contracts s) (λ j l. ok .contract j l .sellerThere)
-
-  -- ---- the amounts contracted, summed by buyers and by sellers
-  pub contracted-sellers : sum (agents s) (λ a. pick (not (retails s a)) (contracted s a))
-      ≡ sum (contracts s) (amount s)
-  unfolding contracted pick
-  contracted-sellers =
-      sum-eq (agents s) (λ a. pick (not (retails s a)) (contracted s a)) (sells s) (λ a l. go a (retails s a) refl)
-      ∙ all-sells
-    where
-      go : (a : ℕ) (t : Bool) → retails s a ≡ t → pick (not t) (cond t (buys s a) (sells s a)) ≡ sells s a
-      go a true e = sym (retailer-sells a e)
-      go a false e = refl
-
-  pub contracted-buyers : sum (agents s) (λ a. pick (retails s a) (contracted s a)) ≡ sum (contracts s) (amount s)
-  unfolding contracted pick
-  contracted-buyers =
-      sum-eq (agents s) (λ a. pick (retails s a) (contracted s a)) (buys s) (λ a l. go a (retails s a) refl) ∙ all-buys
-    where
-      go : (a : ℕ) (t : Bool) → retails s a ≡ t → pick t (cond t (buys s a) (sells s a)) ≡ buys s a
-      go a true e = refl
-      go a false e = sym (generator-buys a e)
-
-  -- ---- bought and sold
   retailer-import : (a : ℕ) → retails s a ≡ true → ownImport s a ≡ 0
   unfolding ownImport
   retailer-import a e = pick-false (not (retails s a)) (imported s a) (ap not e)
 
-  generator-demand : (a : ℕ) → a < agents s → retails s a ≡ false → commercial s a ≡ 0
+  module _ (t : Basis) where
+    retailer-made : (a : ℕ) → retails s a ≡ true → made s t a ≡ 0
+    retailer-made a e = keyed-kind (retails s) (at (s .holders)) (t .schedule) (plants s) false (λ i l. ok .plant i l .generator) a e
+
+    retailer-sells : (a : ℕ) → retails s a ≡ true → sells s t a ≡ 0
+    retailer-sells a e = keyed-kind (retails s) (at (s .sellers)) (t .amount) (contracts s) false (λ j l. ok .contract j l .generator) a e
+
+    generator-buys : (a : ℕ) → retails s a ≡ false → buys s t a ≡ 0
+    generator-buys a e =
+        keyed-kind (retails s) (at (s .deals .buyers)) (t .amount) (contracts s) true (λ j l. ok .contract j l .retailer) a e
+
+    -- nobody does both: what an agent bought and what it sold under contract, together, are what it holds
+    pub contracted-by-both : (a : ℕ) → buys s t a + sells s t a ≡ contractedBy s t a
+    contracted-by-both a = go (retails s a) refl
+      where
+        go : (b : Bool) → retails s a ≡ b → buys s t a + sells s t a ≡ cond b (buys s t a) (sells s t a)
+        go true e = omega (arith, retailer-sells a e)
+        go false e = omega (arith, generator-buys a e)
+
+    all-made : sum (agents s) (made s t) ≡ sum (plants s) (t .schedule)
+    all-made = keyed-total (at (s .holders)) (t .schedule) (agents s) (plants s) (λ i l. ok .plant i l .there)
+
+    all-buys : sum (agents s) (buys s t) ≡ sum (contracts s) (t .amount)
+    all-buys = keyed-total (at (s .deals .buyers)) (t .amount) (agents s) (contracts s) (λ j l. ok .contract j l .buyerThere)
+
+    all-sells : sum (agents s) (sells s t) ≡ sum (contracts s) (t .amount)
+    all-sells = keyed-total (at (s .sellers)) (t .amount) (agents s) (contracts s) (λ j l. ok .contract j l .sellerThere)
+
+    -- the amounts contracted, summed by sellers and by buyers
+    pub sellers-by : sum (agents s) (λ a. pick (not (retails s a)) (contractedBy s t a)) ≡ sum (contracts s) (t .amount)
+    unfolding pick
+    sellers-by =
+        sum-eq (agents s) (λ a. pick (not (retails s a)) (contractedBy s t a)) (sells s t) (λ a l. go a (retails s a) refl) ∙ all-sells
+      where
+        go : (a : ℕ) (b : Bool) → retails s a ≡ b → pick (not b) (cond b (buys s t a) (sells s t a)) ≡ sells s t a
+        go a true e = sym (retailer-sells a e)
+        go a false e = refl
+
+    pub buyers-by : sum (agents s) (λ a. pick (retails s a) (contractedBy s t a)) ≡ sum (contracts s) (t .amount)
+    unfolding pick
+    buyers-by = sum-eq (agents s) (λ a. pick (retails s a) (contractedBy s t a)) (buys s t) (λ a l. go a (retails s a) refl) ∙ all-buys
+      where
+        go : (a : ℕ) (b : Bool) → retails s a ≡ b → pick b (cond b (buys s t a) (sells s t a)) ≡ buys s t a
+        go a true e = refl
+        go a false e = sym (generator-buys a e)
+
+    module _ (idle : Idle s (t .demand)) where
+      -- nobody has both: an agent's commercial demand and what its plants are scheduled to deliver, together, are its own energy
+      pub own-by-both : (a : ℕ) → a < agents s → made s t a + t .demand a ≡ ownBy s t a
+      own-by-both a l = go (retails s a) refl
+        where
+          go : (b : Bool) → retails s a ≡ b → made s t a + t .demand a ≡ cond b (t .demand a) (made s t a)
+          go true e = omega (arith, retailer-made a e)
+          go false e = omega (arith, idle a l e)
+
+      -- lines that have this own energy and these contracts
+      module _ (o h : ℕ → ℕ) (owns : (a : ℕ) → a < agents s → o a ≡ ownBy s t a) (holds : (a : ℕ) → a < agents s → h a ≡ contractedBy s t a) where
+        -- one agent: what it buys and what others owe to it, against what it sells and what it owes
+        even : (a : ℕ) → a < agents s
+            → boughtOf s o h a + (made s t a + buys s t a) ≡ soldOf s o h a + (t .demand a + ownImport s a + sells s t a)
+        even a l = go (retails s a) refl (owns a l) (holds a l)
+          where
+            go : (b : Bool) → retails s a ≡ b → o a ≡ cond b (t .demand a) (made s t a) → h a ≡ cond b (buys s t a) (sells s t a)
+                → cond b (o a - h a) (h a - o a + ownImport s a) + (made s t a + buys s t a) ≡ cond b (h a - o a) (o a - h a) + (t .demand a + ownImport s a + sells s t a)
+            go true e eo eh = omega (arith, retailer-made a e, retailer-sells a e, retailer-import a e)
+            go false e eo eh = omega (arith, generator-buys a e, idle a l e)
+
+        module _ (met : sum (plants s) (t .schedule) ≡ demandBy s (t .demand)) where
+          -- the kWh bought over all agents equal the kWh sold
+          pub bought-sold-by : sum (agents s) (boughtOf s o h) ≡ sum (agents s) (soldOf s o h)
+          bought-sold-by =
+              let n = agents s in
+              omega (
+                arith,
+                sum-eq n (λ a. boughtOf s o h a + (made s t a + buys s t a)) (λ a. soldOf s o h a + (t .demand a + ownImport s a + sells s t a)) even,
+                sum-add n (boughtOf s o h) (λ a. made s t a + buys s t a),
+                sum-add n (soldOf s o h) (λ a. t .demand a + ownImport s a + sells s t a),
+                sum-add n (made s t) (buys s t),
+                sum-add n (λ a. t .demand a + ownImport s a) (sells s t),
+                all-made,
+                all-buys,
+                all-sells,
+                met,
+              )
+
+-- as much sold as bought over all agents, the money sums to 0, whatever the price
+pub money-none-by : (n : ℕ) (sold bought : ℕ → ℕ) (p : ℕ) → sum n bought ≡ sum n sold → signedSum n (λ a. moneyOf (sold a) (bought a) p) ≡ pos 0
+money-none-by n sold bought p e = money-sum n sold bought p ∙ money-even (sum n sold) (sum n bought) p (sym e)
+
+-- ---- the lines of the hour itself
+module _ (s : Sheet) (ok : Sound s) where
+  pub contracted-both : (a : ℕ)
+      → keyed (at (s .deals .buyers)) (amount s) (contracts s) a + keyed (at (s .sellers)) (amount s) (contracts s) a ≡ contracted s a
+  unfolding contracted
+  contracted-both = contracted-by-both s ok (basisOf s)
+
+  -- the amounts contracted, summed by buyers and by sellers
+  pub contracted-sellers : sum (agents s) (λ a. pick (not (retails s a)) (contracted s a)) ≡ sum (contracts s) (amount s)
+  unfolding contracted
+  contracted-sellers = sellers-by s ok (basisOf s)
+
+  pub contracted-buyers : sum (agents s) (λ a. pick (retails s a) (contracted s a)) ≡ sum (contracts s) (amount s)
+  unfolding contracted
+  contracted-buyers = buyers-by s ok (basisOf s)
+
+  generator-demand : Idle s (commercial s)
   unfolding commercial consumption
   generator-demand a l e =
       omega (arith, pick-false (retails s a) (imported s a - exported s a) e, generator-share s a l e)
 
-  -- nobody has both: an agent's commercial demand and what its plants are scheduled to deliver, together, are its own energy
   pub own-both : (a : ℕ) → a < agents s → keyed (at (s .holders)) (scheduled s) (plants s) a + commercial s a ≡ own s a
   unfolding own
-  own-both a l = go (retails s a) refl
-    where
-      go : (t : Bool) → retails s a ≡ t → made s a + commercial s a ≡ cond t (commercial s a) (made s a)
-      go true e = omega (arith, retailer-made a e)
-      go false e = omega (arith, generator-demand a l e)
-
-  -- one agent: what it buys and what others owe to it, against what it sells and what it owes
-  even : (a : ℕ)
-      → a < agents s
-      → bought s a + (made s a + buys s a) ≡ sold s a + (commercial s a + ownImport s a + sells s a)
-  unfolding bought sold own contracted
-  even a l = go (retails s a) refl
-    where
-      own-of : Bool → ℕ
-      own-of t = cond t (commercial s a) (made s a)
-
-      held : Bool → ℕ
-      held t = cond t (buys s a) (sells s a)
-
-      go : (t : Bool) → retails s a ≡ t
-          → cond t (own-of t - held t) (held t - own-of t + ownImport s a) + (made s a + buys s a)
-          ≡ cond t (held t - own-of t) (own-of t - held t) + (commercial s a + ownImport s a + sells s a)
-      go true e = omega (arith, retailer-made a e, retailer-sells a e, retailer-import a e)
-      go false e = omega (arith, generator-buys a e, generator-demand a l e)
+  own-both = own-by-both s ok (basisOf s) generator-demand
 
   module _ (fine : coverVerdict s ≡ Verdict.Fine) where
     -- the schedules sum to the hour's demand
@@ -204,26 +235,11 @@ module _ (s : Sheet) (ok : Sound s) where
 
     -- the kWh bought over all agents equal the kWh sold
     pub bought-sold : sum (agents s) (bought s) ≡ sum (agents s) (sold s)
-    unfolding hourDemand
+    unfolding bought sold own contracted hourDemand
     bought-sold =
-        let n = agents s in
-        omega (
-          arith,
-          sum-eq n (λ a. bought s a + (made s a + buys s a))
-              (λ a. sold s a + (commercial s a + ownImport s a + sells s a)) even,
-          sum-add n (bought s) (λ a. made s a + buys s a),
-          sum-add n (sold s) (λ a. commercial s a + ownImport s a + sells s a),
-          sum-add n (made s) (buys s),
-          sum-add n (λ a. commercial s a + ownImport s a) (sells s),
-          all-made,
-          all-buys,
-          all-sells,
-          schedule-met,
-        )
+        bought-sold-by s ok (basisOf s) generator-demand (own s) (contracted s) (λ a l. refl) (λ a l. refl) schedule-met
 
     -- the money over all agents sums to 0
     pub money-none : signedSum (agents s) (money s) ≡ pos 0
     unfolding money
-    money-none =
-        money-sum (agents s) (sold s) (bought s) (bolsaPrice s)
-        ∙ money-even (sum (agents s) (sold s)) (sum (agents s) (bought s)) (bolsaPrice s) (sym bought-sold)
+    money-none = money-none-by (agents s) (sold s) (bought s) (bolsaPrice s) bought-sold

@@ -1,9 +1,11 @@
 -- The cells of all agents in one row: cell k is figure k % cellsPerAgent of agent k / cellsPerAgent. Assumes nothing.
 use Prim.Native.Nat.{ℕ, zero, suc, _+_, _*_, _/_, _%_, _<_}
 use native.Mathlib.Omega.{arith}
-use mathlib.Core.Path.{_≡_}
+use mathlib.Core.Path.{_≡_, _∙_}
+use Rattle.sums.specs.Lists.{at}
 use Rattle.hour.specs.Sheet.{Sheet, agents}
 use Rattle.hour.specs.Balance.{ownImport, lossShare}
+use Rattle.hour.specs.Answer.{Lent, shareIn, ownIn, importIn, contractedIn, boughtIn, soldIn}
 use Rattle.hour.specs.Lines.{own, contracted, bought, sold, cellsPerAgent, cellOf, figure}
 
 -- equal figures, equal cells
@@ -48,6 +50,14 @@ module _ (s : Sheet) where
   unfolding cellOf
   figure-share a = let e : cellsPerAgent * a ≡ cellsPerAgent * a + 0 = omega arith in rw e (cell-at a 0 (omega arith))
 
+  pub figure-own : (a : ℕ) → figure s (cellsPerAgent * a + 1) ≡ own s a
+  unfolding cellOf
+  figure-own a = cell-at a 1 (omega arith)
+
+  pub figure-import : (a : ℕ) → figure s (cellsPerAgent * a + 2) ≡ ownImport s a
+  unfolding cellOf
+  figure-import a = cell-at a 2 (omega arith)
+
   pub figure-contracted : (a : ℕ) → figure s (cellsPerAgent * a + 3) ≡ contracted s a
   unfolding cellOf
   figure-contracted a = cell-at a 3 (omega arith)
@@ -59,3 +69,23 @@ module _ (s : Sheet) where
   pub figure-sold : (a : ℕ) → figure s (cellsPerAgent * a + 5) ≡ sold s a
   unfolding cellOf
   figure-sold a = cell-at a 5 (omega arith)
+
+-- lists that hold the sheet's figures, told by agent
+module _ (s : Sheet) (l : Lent) (same : (k : ℕ) → k < cellsPerAgent * agents s → at (l .figures) k ≡ figure s k) (a : ℕ) (h : a < agents s) where
+  pub share-told : shareIn l a ≡ lossShare s a
+  share-told = same (cellsPerAgent * a) (omega arith) ∙ figure-share s a
+
+  pub own-told : ownIn l a ≡ own s a
+  own-told = same (cellsPerAgent * a + 1) (omega arith) ∙ figure-own s a
+
+  pub import-told : importIn l a ≡ ownImport s a
+  import-told = same (cellsPerAgent * a + 2) (omega arith) ∙ figure-import s a
+
+  pub contracted-told : contractedIn l a ≡ contracted s a
+  contracted-told = same (cellsPerAgent * a + 3) (omega arith) ∙ figure-contracted s a
+
+  pub bought-told : boughtIn l a ≡ bought s a
+  bought-told = same (cellsPerAgent * a + 4) (omega arith) ∙ figure-bought s a
+
+  pub sold-told : soldIn l a ≡ sold s a
+  sold-told = same (cellsPerAgent * a + 5) (omega arith) ∙ figure-sold s a

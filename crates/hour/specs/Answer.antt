@@ -1,10 +1,10 @@
 -- Document 01, 'When the sheet is turned away', of an accepted sheet and the four lent lists: refusals 7 to 10, 13 and 11,
 -- in this order. Assumes nothing.
-use Prim.Native.Nat.{ℕ, _*_, _≤_}
+use Prim.Native.Nat.{ℕ, _+_, _*_, _≤_}
 use mathlib.Core.Bool.{_&&_, _||_}
 use mathlib.Core.List.{List, [], _∷_}
-use lib.IntN.{ℤ}
-use lib.ListN.{length}
+use lib.IntN.{ℤ, pos}
+use lib.ListN.{length, getD}
 use lib.Dec.{ltb, leb, eqb}
 use Rattle.sums.specs.Sums.{sum, first}
 use Rattle.sums.specs.Lists.{at}
@@ -21,6 +21,34 @@ pub record Lent : Type 0 where
   pub money : List ℤ
   pub schedule : List ℕ
   pub amounts : List ℕ
+
+-- the same by agent, plant and contract
+abbrev pub shareIn : Lent → ℕ → ℕ
+shareIn l a = at (l .figures) (cellsPerAgent * a)
+
+abbrev pub ownIn : Lent → ℕ → ℕ
+ownIn l a = at (l .figures) (cellsPerAgent * a + 1)
+
+abbrev pub importIn : Lent → ℕ → ℕ
+importIn l a = at (l .figures) (cellsPerAgent * a + 2)
+
+abbrev pub contractedIn : Lent → ℕ → ℕ
+contractedIn l a = at (l .figures) (cellsPerAgent * a + 3)
+
+abbrev pub boughtIn : Lent → ℕ → ℕ
+boughtIn l a = at (l .figures) (cellsPerAgent * a + 4)
+
+abbrev pub soldIn : Lent → ℕ → ℕ
+soldIn l a = at (l .figures) (cellsPerAgent * a + 5)
+
+abbrev pub moneyIn : Lent → ℕ → ℤ
+moneyIn l a = getD (l .money) a (pos 0)
+
+abbrev pub scheduleIn : Lent → ℕ → ℕ
+scheduleIn l i = at (l .schedule) i
+
+abbrev pub amountIn : Lent → ℕ → ℕ
+amountIn l j = at (l .amounts) j
 
 -- the lowest retailer whose referred exports exceed its referred imports; the count of agents where there is none
 unfoldable pub firstOver : Sheet → ℕ

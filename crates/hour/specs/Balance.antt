@@ -54,8 +54,11 @@ unfoldable pub demands : Sheet → List ℕ
 demands s = listTo (commercial s) (agents s)
 
 -- the hour's demand is the sum of commercial demands plus generators' imports
+abbrev pub demandBy : Sheet → (commercial : ℕ → ℕ) → ℕ
+demandBy s commercial = sum (agents s) (λ a. commercial a + ownImport s a)
+
 unfoldable pub hourDemand : Sheet → ℕ
-hourDemand s = sum (agents s) (λ a. commercial s a + ownImport s a)
+hourDemand s = demandBy s (commercial s)
 
 -- it equals the sum of generator exports: a generator is metered at 220 kV, so these are its readings
 unfoldable pub generated : Sheet → ℕ

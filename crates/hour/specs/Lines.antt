@@ -20,23 +20,45 @@ bolsaPrice s = hourPrice (at (s .offers)) (at (s .flags)) (scheduled s) (plants 
 unfoldable pub amount : Sheet → ℕ → ℕ
 amount s j = hourAmount (s .deals) (demands s) j
 
--- own energy: commercial demand of a retailer, schedule of a generator
-unfoldable pub own : Sheet → ℕ → ℕ
-own s a = cond (retails s a) (commercial s a) (keyed (at (s .holders)) (scheduled s) (plants s) a)
+-- ---- what the lines are worked out from: commercial demands, a schedule and the amounts of contracts
+pub record Basis : Type 0 where
+  pub demand : ℕ → ℕ
+  pub schedule : ℕ → ℕ
+  pub amount : ℕ → ℕ
 
-unfoldable pub contracted : Sheet → ℕ → ℕ
-contracted s a =
-    cond (retails s a) (keyed (at (s .deals .buyers)) (amount s) (contracts s) a)
-    (keyed (at (s .sellers)) (amount s) (contracts s) a)
+-- own energy: commercial demand of a retailer, schedule of a generator
+abbrev pub ownBy : Sheet → Basis → ℕ → ℕ
+ownBy s t a = cond (retails s a) (t .demand a) (keyed (at (s .holders)) (t .schedule) (plants s) a)
+
+abbrev pub contractedBy : Sheet → Basis → ℕ → ℕ
+contractedBy s t a =
+    cond (retails s a) (keyed (at (s .deals .buyers)) (t .amount) (contracts s) a)
+    (keyed (at (s .sellers)) (t .amount) (contracts s) a)
 
 -- a retailer buys the demand that contracts don't cover; a generator buys what its schedule falls short of them, and its own
 -- import is added to that
-unfoldable pub bought : Sheet → ℕ → ℕ
-bought s a = cond (retails s a) (own s a - contracted s a) (contracted s a - own s a + ownImport s a)
+abbrev pub boughtOf : Sheet → (own contracted : ℕ → ℕ) → ℕ → ℕ
+boughtOf s own contracted a = cond (retails s a) (own a - contracted a) (contracted a - own a + ownImport s a)
 
 -- a retailer sells the contracted excess, a generator the schedule above its contracted amount
+abbrev pub soldOf : Sheet → (own contracted : ℕ → ℕ) → ℕ → ℕ
+soldOf s own contracted a = cond (retails s a) (contracted a - own a) (own a - contracted a)
+
+-- ---- the lines of the hour itself
+abbrev pub basisOf : Sheet → Basis
+basisOf s = record { demand = commercial s; schedule = scheduled s; amount = amount s }
+
+unfoldable pub own : Sheet → ℕ → ℕ
+own s a = ownBy s (basisOf s) a
+
+unfoldable pub contracted : Sheet → ℕ → ℕ
+contracted s a = contractedBy s (basisOf s) a
+
+unfoldable pub bought : Sheet → ℕ → ℕ
+bought s a = boughtOf s (own s) (contracted s) a
+
 unfoldable pub sold : Sheet → ℕ → ℕ
-sold s a = cond (retails s a) (contracted s a - own s a) (own s a - contracted s a)
+sold s a = soldOf s (own s) (contracted s) a
 
 -- money is sold less bought, times the price: positive is owed to the agent
 unfoldable pub moneyOf : (sold bought price : ℕ) → ℤ

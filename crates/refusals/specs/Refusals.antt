@@ -54,6 +54,22 @@ notThere = 12
 abbrev pub overrun : ℕ
 overrun = 13
 
+-- 21 to 25, of an administrator's statement: loss shares, schedule, price, contract amounts or lines that do not follow
+abbrev pub badShares : ℕ
+badShares = 21
+
+abbrev pub badSchedule : ℕ
+badSchedule = 22
+
+abbrev pub badPrice : ℕ
+badPrice = 23
+
+abbrev pub badAmounts : ℕ
+badAmounts = 24
+
+abbrev pub badLines : ℕ
+badLines = 25
+
 abbrev pub refusal : ℕ → ℕ → Refusal
 refusal number place = record { number = number; place = place }
 

@@ -1,4 +1,4 @@
-// Why a sheet, a list or a question is turned away: the thirteen numbers, and the answer of a check.
+// Why a sheet, a list, a question or a statement is turned away: the numbers, and the answer of a check.
 ghost use mathlib.Core.Path.{_≡_};
 ghost use Rattle.refusals.specs.Refusals.{refused};
 
@@ -34,6 +34,16 @@ impl Refusal {
     pub const ASKED: u32 = 12;
 
     pub const OVERRUN: u32 = 13;
+
+    pub const SHARES: u32 = 21;
+
+    pub const SCHEDULE: u32 = 22;
+
+    pub const PRICE: u32 = 23;
+
+    pub const AMOUNTS: u32 = 24;
+
+    pub const LINES: u32 = 25;
 }
 
 // What a check answers.

@@ -1,0 +1,11 @@
+use Rattle.sums.proofs.Sums.{product-fits}
+use borrow.Author.Needs.{needs}
+use Rattle.checking.proofs.numbers.product.Statement.{statement}
+use Rattle.checking.proofs.numbers.product.Tie as tie
+
+mul-result : tie.Need-mul-result
+mul-result c = record { fits = product-fits (search needs) (search needs) }
+
+pub product-spec : {M : Type 1} → statement M
+product-spec = tie.close
+    (tie.spec mul-result (λ c. search needs))

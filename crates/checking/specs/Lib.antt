@@ -1,0 +1,4 @@
+pub mod Passes
+pub mod Accounts
+pub mod Parts
+pub mod Check

@@ -1,0 +1,134 @@
+-- What the parts of a check hand on to each other. Assumes nothing.
+use Prim.Native.Nat.{ℕ, _+_, _-_, _*_, _≤_, _<_, max}
+use mathlib.Core.Bool.{Bool, false, cond, _&&_}
+use mathlib.Core.List.{List, [], _∷_}
+use mathlib.Core.Path.{_≡_}
+use lib.Dec.{ltb, leb, eqb}
+use lib.IntN.{ℤ, pos}
+use lib.ListN.{length, getD}
+use Rattle.sums.specs.Sums.{sum, peak, pick, keyed}
+use Rattle.sums.specs.Lists.{at}
+use Rattle.rows.specs.Limits.{mostAgents, mostPlants, mostContracts}
+use Rattle.rows.specs.Rows.{isRetailer}
+use Rattle.merit.specs.Merit.{hourPrice}
+use Rattle.refusals.specs.Refusals.{noRoom, badSchedule, badPrice, badAmounts, badLines, refusedUnless, firstOf}
+use Rattle.refusals.specs.declared.Verdict.{Verdict}
+use Rattle.hour.specs.Sheet.{Sheet, agents, plants, contracts, retails}
+use Rattle.hour.specs.Balance.{consumption, ownImport, losses}
+use Rattle.hour.specs.Lines.{moneyOf}
+use Rattle.hour.specs.Answer.{Lent, coverOf}
+use Rattle.statement.specs.Decide.{every}
+use Rattle.statement.specs.Hour.{hourGood}
+use Rattle.statement.specs.Points.{demandIn}
+use Rattle.statement.specs.Tests.{withinTest, orderTest, scheduleGood, priceGood, amountsGood, sameMoney, linesGood}
+use Rattle.checking.specs.Passes.{room}
+use Rattle.checking.specs.declared.plants.Run.{Run}
+
+-- ---- sums by agent, added to what stands in their cells: nothing overflows
+pub record Addable (before : List ℕ) : Type 0 where
+  pub cells : length before ≡ mostAgents
+  pub small : (a : ℕ) → a < mostAgents → at before a ≤ room 1
+
+pub record Countable (keys values before : List ℕ) : Type 0 where
+  pub few : length keys ≤ mostContracts
+  pub long : length keys ≤ length values
+  pub agent : (j : ℕ) → j < length keys → at keys j < mostAgents
+  pub cells : length before ≡ mostAgents
+  pub small : (a : ℕ) → a < mostAgents → at before a ≤ room 1024
+
+pub record Tallied (keys values before after : List ℕ) : Type 0 where
+  pub each : (a : ℕ) → a < mostAgents → at after a ≡ keyed (at keys) (at values) (length keys) a + at before a
+  pub most : (a : ℕ) → a < mostAgents → at after a ≤ room (length keys) + at before a
+  pub long : length after ≡ length before
+
+-- ---- the pass over the plants
+
+-- five lists with a cell a plant
+pub record Offered (ts ms ps vs qs : List ℕ) : Type 0 where
+  pub few : length ps ≤ mostPlants
+  pub flags : length ts ≡ length ps
+  pub musts : length ms ≡ length ps
+  pub available : length vs ≡ length ps
+  pub schedule : length ps ≤ length qs
+
+-- one plant more, of this flag, must-run, offer and availability, that is to deliver q
+pub record Ran (v : Run) (flag must offer available q : ℕ) (r : Run) : Type 0 where
+  pub good : r .good ≡ (v .good && withinTest must available q)
+  pub total : r .total ≡ v .total + q
+  pub dearest : r .dearest ≡ max (v .dearest) (pick (ltb must q) offer)
+  pub price : r .price ≡ max (v .price) (pick (eqb flag 0 && ltb 0 q) offer)
+
+pub record RanTo (flags musts offers available schedule : List ℕ) (n : ℕ) (v : Run) : Type 0 where
+  pub good : v .good ≡ every n (λ i. withinTest (at musts i) (at available i) (at schedule i))
+  pub total : v .total ≡ sum n (at schedule)
+  pub most : v .total ≤ room n
+  pub dearest : v .dearest ≡ peak n (λ i. pick (ltb (at musts i) (at schedule i)) (at offers i))
+  pub price : v .price ≡ peak n (λ i. pick (eqb (at flags i) 0 && ltb 0 (at schedule i)) (at offers i))
+
+-- the plants of the sheet h, for the demand d: whether the schedule is good, its price, and what it adds to own energy
+unfoldable pub scheduleTest : Sheet → (demand : ℕ) → (schedule : List ℕ) → Bool
+scheduleTest h d q =
+    every (plants h) (λ i. withinTest (at (h .mustRun) i) (at (h .available) i) (at q i))
+    && eqb (sum (plants h) (at q)) d
+    && every (plants h) (λ i. orderTest
+    (peak (plants h) (λ j. pick (ltb (at (h .mustRun) j) (at q j)) (at (h .offers) j))) (at (h .offers) i)
+    (at (h .available) i) (at q i))
+
+pub record Scheduled (h : Sheet) (d : ℕ) (schedule before : List ℕ) (r : Run) (after : List ℕ) : Type 0 where
+  pub good : r .good ≡ scheduleTest h d schedule
+  pub price : r .price ≡ hourPrice (at (h .offers)) (at (h .flags)) (at schedule) (plants h)
+  pub own : (a : ℕ) → a < mostAgents → at after a ≡ keyed (at (h .holders)) (at schedule) (plants h) a + at before a
+  pub long : length after ≡ length before
+
+-- ---- the contracts of the sheet h, on these demands: whether the amounts are good, and what each agent holds
+pub record Agreed (h : Sheet) (ds amounts before : List ℕ) (r : Bool) (after : List ℕ) : Type 0 where
+  pub good : r ≡ hourGood (h .deals) ds amounts
+  pub held : (a : ℕ) → a < mostAgents
+      → at after a ≡ keyed (at (h .deals .buyers)) (at amounts) (contracts h) a
+      + keyed (at (h .sellers)) (at amounts) (contracts h) a + at before a
+  pub long : length after ≡ length before
+
+-- ---- a line, from the agent's kind and what it has, against the stated cells 1 to 5 and the money
+abbrev pub lineTest : (kind own import contracted price c1 c2 c3 c4 c5 : ℕ) → ℤ → Bool
+lineTest k o i h p c1 c2 c3 c4 c5 m =
+    eqb c1 o && eqb c2 i && eqb c3 h && eqb c4 (cond (isRetailer k) (c1 - c3) (c3 - c1 + i))
+    && eqb c5 (cond (isRetailer k) (c3 - c1) (c1 - c3))
+    && sameMoney m (moneyOf c5 c4 p)
+
+abbrev pub lineAt : (kinds own imports held : List ℕ) → (price : ℕ) → (figures : List ℕ) → List ℤ → ℕ → Bool
+lineAt ks os is hs p f m a =
+    lineTest (at ks a) (at os a) (at is a) (at hs a) p (at f (6 * a + 1)) (at f (6 * a + 2)) (at f (6 * a + 3))
+    (at f (6 * a + 4)) (at f (6 * a + 5)) (getD m a (pos 0))
+
+-- ---- the agents of the sheet h, as weighing has them: kinds, consumptions and own imports, and the losses
+pub record Weighs (h : Sheet) (ks us is : List ℕ) (x : ℕ) : Type 0 where
+  pub kinds : (a : ℕ) → a < agents h → at ks a ≡ at (h .kinds) a
+  pub used : (a : ℕ) → a < agents h → at us a ≡ consumption h a
+  pub imports : (a : ℕ) → a < agents h → at is a ≡ ownImport h a
+  pub losses : x ≡ losses h
+
+-- the same with the demands that their shares make
+pub record Demands (h : Sheet) (l : Lent) (ks ds is : List ℕ) : Type 0 where
+  pub kinds : (a : ℕ) → a < agents h → at ks a ≡ at (h .kinds) a
+  pub demands : (a : ℕ) → a < agents h → at ds a ≡ demandIn h l a
+  pub small : (a : ℕ) → a < agents h → at ds a ≤ room 1
+  pub whole : sum (agents h) (demandIn h l) ≤ room 1
+  pub idle : (a : ℕ) → a < agents h → retails h a ≡ false → demandIn h l a ≡ 0
+  pub imports : (a : ℕ) → a < agents h → at is a ≡ ownImport h a
+  pub own : sum (agents h) (ownImport h) ≤ room 1
+
+-- points 22 to 25
+unfoldable pub tradeVerdict : Sheet → (price : ℕ) → Lent → Verdict
+tradeVerdict s price l =
+    firstOf (refusedUnless (scheduleGood s l) badSchedule 0
+    ∷ refusedUnless (priceGood s price l) badPrice 0
+    ∷ refusedUnless (amountsGood s l) badAmounts 0
+    ∷ refusedUnless (linesGood s price l) badLines 0
+    ∷ [])
+
+-- ---- refusals 10, 13 and 11 behind those of the balance
+abbrev pub roomy : (agents plants contracts figures money schedule amounts : ℕ) → Bool
+roomy n p q f m s t = leb (6 * n) f && leb n m && leb p s && leb q t
+
+abbrev pub judged : Verdict → (demand available mustRun : ℕ) → Bool → Verdict
+judged v d a m room = firstOf (v ∷ coverOf d a m ∷ refusedUnless room noRoom 0 ∷ [])

@@ -1,0 +1,147 @@
+// Whether an administrator's statement of an hour is accepted: a sheet, a price and four lists go in, a verdict comes out, and nothing
+// is changed.
+use refusals::Refusal;
+use refusals::Verdict;
+use rows::Agent;
+use sheet::Counts;
+
+mod admitted;
+mod amounts;
+mod lines;
+mod numbers;
+mod passes;
+mod plants;
+mod shares;
+mod tally;
+
+ghost use mathlib.Core.Path.{_≡_};
+ghost use lib.ListN.{length};
+ghost use Rattle.rows.specs.Limits.{mostAgents};
+ghost use Rattle.sheet.specs.Reading.{readOf};
+ghost use Rattle.sheet.specs.declared.Reading.{Reading};
+ghost use Rattle.columns.specs.Columns.{columnsOf};
+ghost use Rattle.hour.specs.Answer.{Roomy};
+ghost use Rattle.statement.specs.Tests.{pointsVerdict};
+ghost use Rattle.checking.specs.Parts.{Weighs, Demands, tradeVerdict};
+ghost use Rattle.checking.specs.Check.{stated, checkVerdict};
+
+// Points 22 to 25, on the demands that their shares make.
+fn trades(
+    bytes: &[u8],
+    c: Counts,
+    kinds: &[u32; Agent::MOST],
+    demands: [u32; Agent::MOST],
+    imports: &[u32; Agent::MOST],
+    price: u32,
+    figures: &[u32],
+    money: &[i64],
+    schedule: &[u32],
+    amounts: &[u32],
+) -> Verdict
+    requires { ⌜ readOf (now bytes) ≡ Reading.Accepted c ⌝ }
+    requires { ⌜ Roomy (columnsOf (now bytes) c) (stated (now figures) (now money) (now schedule) (now amounts)) × Demands (columnsOf (now bytes) c) (stated (now figures) (now money) (now schedule) (now amounts)) (now kinds) demands (now imports) × (length demands ≡ mostAgents) ⌝ }
+    ensures { λ r. ⌜ r ≡ tradeVerdict (columnsOf (now (bytes .entry)) c) price (stated (now (figures .entry)) (now (money .entry)) (now (schedule .entry)) (now (amounts .entry))) ⌝ }
+{
+    let n = c.agents;
+    let retailers = shares::total(&demands, n);
+    let generators = shares::total(imports, n);
+    let demand = retailers + generators;
+    let mut own = [0u64; Agent::MOST];
+    shares::widen(&demands, n, &mut own);
+    let v = plants::judge(bytes, c, demand, schedule, &mut own);
+    if !v.good {
+        return refusals::refuse(Refusal::SCHEDULE, 0);
+    }
+    if price != v.price {
+        return refusals::refuse(Refusal::PRICE, 0);
+    }
+    let mut held = [0u64; Agent::MOST];
+    let follow = amounts::judge(bytes, c, &demands[..n], amounts, &mut held);
+    if !follow {
+        return refusals::refuse(Refusal::AMOUNTS, 0);
+    }
+    if lines::good(kinds, &own, imports, &held, n, price, figures, money) {
+        return Verdict::Fine;
+    }
+    refusals::refuse(Refusal::LINES, 0)
+}
+
+// The five points, the first that fails.
+fn points(
+    bytes: &[u8],
+    c: Counts,
+    kinds: &[u32; Agent::MOST],
+    used: &[u32; Agent::MOST],
+    imports: &[u32; Agent::MOST],
+    losses: u32,
+    price: u32,
+    figures: &[u32],
+    money: &[i64],
+    schedule: &[u32],
+    amounts: &[u32],
+) -> Verdict
+    requires { ⌜ readOf (now bytes) ≡ Reading.Accepted c ⌝ }
+    requires { ⌜ Roomy (columnsOf (now bytes) c) (stated (now figures) (now money) (now schedule) (now amounts)) × Weighs (columnsOf (now bytes) c) (now kinds) (now used) (now imports) losses ⌝ }
+    ensures { λ r. ⌜ r ≡ pointsVerdict (columnsOf (now (bytes .entry)) c) price (stated (now (figures .entry)) (now (money .entry)) (now (schedule .entry)) (now (amounts .entry))) ⌝ }
+{
+    let n = c.agents;
+    let consumed = shares::total(used, n);
+    if !shares::good(kinds, used, n, losses, consumed, figures) {
+        return refusals::refuse(Refusal::SHARES, 0);
+    }
+    let mut demands = [0u32; Agent::MOST];
+    shares::demands(used, figures, n, &mut demands);
+    trades(
+        bytes,
+        c,
+        kinds,
+        demands,
+        imports,
+        price,
+        figures,
+        money,
+        schedule,
+        amounts,
+    )
+}
+
+// Checks a statement of the hour of a sheet, for every string of bytes and lists of every length.
+pub fn check(
+    bytes: &[u8],
+    price: u32,
+    figures: &[u32],
+    money: &[i64],
+    schedule: &[u32],
+    amounts: &[u32],
+) -> Verdict
+    ensures { λ r. ⌜ r ≡ checkVerdict (now (bytes .entry)) price (stated (now (figures .entry)) (now (money .entry)) (now (schedule .entry)) (now (amounts .entry))) ⌝ }
+{
+    let b = balance::weigh(bytes);
+    let c = b.counts;
+    let room = admitted::has_room(c, figures.len(), money.len(), schedule.len(), amounts.len());
+    let weighed = b.verdict;
+    let demand = b.demand;
+    let verdict = admitted::judge(bytes, c, weighed, demand, room);
+    let Verdict::Fine = verdict else {
+        return verdict;
+    };
+    let kinds = b.kinds;
+    let imports = b.imports;
+    let commercial = b.commercial;
+    let ours = b.shares;
+    let mut used = [0u32; Agent::MOST];
+    shares::consumptions(&commercial, &ours, c.agents, &mut used);
+    points(
+        bytes,
+        c,
+        &kinds,
+        &used,
+        &imports,
+        b.losses,
+        price,
+        figures,
+        money,
+        schedule,
+        amounts,
+    )
+}

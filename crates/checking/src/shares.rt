@@ -1,0 +1,106 @@
+// Point 21: their loss shares, and the demands with them.
+use crate::numbers;
+use rows::Agent;
+ghost use mathlib.Core.Path.{_≡_};
+ghost use mathlib.Core.Bool.{_&&_};
+ghost use Prim.Native.Nat.{ℕ, _+_, _-_, _*_, _≤_, _<_};
+ghost use lib.Dec.{eqb};
+ghost use lib.ListN.{length};
+ghost use Rattle.sums.specs.Sums.{sum};
+ghost use Rattle.sums.specs.Lists.{at, Filled};
+ghost use Rattle.rows.specs.Limits.{mostAgents};
+ghost use Rattle.rows.specs.Rows.{isRetailer};
+ghost use Rattle.statement.specs.Decide.{every};
+ghost use Rattle.statement.specs.Tests.{shareTest};
+ghost use Rattle.checking.specs.Passes.{room};
+
+// The consumptions of n agents: their commercial demand less their share, as weighing has them.
+pub(crate) fn consumptions(
+    commercial: &[u32; Agent::MOST],
+    shares: &[u32; Agent::MOST],
+    n: usize,
+    out: &mut [u32],
+)
+    requires { ⌜ (n ≤ mostAgents) × (n ≤ length (now out)) ⌝ }
+    ensures { λ _. ⌜ Filled 0 (now (out .entry)) (now (out .exit)) n (λ a. at (now (commercial .entry)) a - at (now (shares .entry)) a) ⌝ }
+{
+    let mut a = 0;
+    while a < n {
+        out[a] = sums::less(commercial[a], shares[a]);
+        a += 1;
+    }
+}
+
+// The sum of a column's first n cells.
+pub(crate) fn total(values: &[u32; Agent::MOST], n: usize) -> u64
+    requires { ⌜ (n ≤ mostAgents) × (sum n (at (now values)) ≤ room 1) ⌝ }
+    ensures { λ r. ⌜ r ≡ sum n (at (now (values .entry))) ⌝ }
+{
+    let mut sum = 0;
+    let mut a = 0;
+    while a < n {
+        sum += sums::wide(values[a]);
+        a += 1;
+    }
+    sum
+}
+
+// A retailer's share is near its proportion; a generator has none, and nobody has where nothing is consumed.
+fn share_good(kind: u32, losses: u32, used: u32, consumed: u64, share: u32) -> bool
+    ensures { λ r. ⌜ r ≡ shareTest (isRetailer kind) losses used consumed share ⌝ }
+{
+    if (kind == Agent::RETAILER) & (0 < consumed) {
+        return numbers::near(losses, used, consumed, share);
+    }
+    share == 0
+}
+
+// Every share good, and all together the losses.
+pub(crate) fn good(
+    kinds: &[u32; Agent::MOST],
+    used: &[u32; Agent::MOST],
+    n: usize,
+    losses: u32,
+    consumed: u64,
+    figures: &[u32],
+) -> bool
+    requires { ⌜ (n ≤ mostAgents) × (6 * n ≤ length (now figures)) ⌝ }
+    ensures { λ r. ⌜ r ≡ (every n (λ a. shareTest (isRetailer (at (now (kinds .entry)) a)) losses (at (now (used .entry)) a) consumed (at (now (figures .entry)) (6 * a))) && eqb (sum n (λ a. at (now (figures .entry)) (6 * a))) losses) ⌝ }
+{
+    let mut fine = true;
+    let mut sum = 0;
+    let mut a = 0;
+    while a < n {
+        let share = figures[6 * a];
+        let one = share_good(kinds[a], losses, used[a], consumed, share);
+        fine = fine & one;
+        sum += sums::wide(share);
+        a += 1;
+    }
+    fine & (sum == sums::wide(losses))
+}
+
+// The commercial demands with their shares.
+pub(crate) fn demands(used: &[u32; Agent::MOST], figures: &[u32], n: usize, out: &mut [u32])
+    requires { ⌜ (n ≤ mostAgents) × (6 * n ≤ length (now figures)) × (n ≤ length (now out)) ⌝ }
+    requires { ⌜ ((a : ℕ) → a < n → at (now used) a + at (now figures) (6 * a) ≤ 4294967295) ⌝ }
+    ensures { λ _. ⌜ Filled 0 (now (out .entry)) (now (out .exit)) n (λ a. at (now (used .entry)) a + at (now (figures .entry)) (6 * a)) ⌝ }
+{
+    let mut a = 0;
+    while a < n {
+        out[a] = used[a] + figures[6 * a];
+        a += 1;
+    }
+}
+
+// The same column, 64 bits wide.
+pub(crate) fn widen(values: &[u32; Agent::MOST], n: usize, out: &mut [u64])
+    requires { ⌜ (n ≤ mostAgents) × (n ≤ length (now out)) ⌝ }
+    ensures { λ _. ⌜ Filled 0 (now (out .entry)) (now (out .exit)) n (at (now (values .entry))) ⌝ }
+{
+    let mut a = 0;
+    while a < n {
+        out[a] = sums::wide(values[a]);
+        a += 1;
+    }
+}

@@ -1,0 +1,15 @@
+pub mod Every
+pub mod Told
+pub mod Sound
+pub mod Complete
+pub mod Ours
+pub mod Groups
+pub mod Marginal
+pub mod Quick
+pub mod Laws
+pub mod Hours
+pub mod Points
+pub mod Held
+pub mod Settled
+pub mod Cases
+pub mod Emptied

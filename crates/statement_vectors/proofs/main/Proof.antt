@@ -1,0 +1,34 @@
+use borrow.Author.Needs.{needs}
+use Prim.Native.Nat.{_-_, _≤_}
+use mathlib.Core.Path.{_≡_, sym}
+use lib.ListN.{length}
+use lib.Seq.{length-take-le}
+use Rattle.statement_vectors.specs.Pieces.{Within}
+use Rattle.statement_vectors.specs.declared.Got.{Got}
+use Rattle.statement_vectors.proofs.main.Statement.{statement}
+use Rattle.statement_vectors.proofs.main.Tie as tie
+
+abbrev Inv-loop : tie.InvT-loop
+Inv-loop buf₀ number₀ t6 buf number = (number ≤ 1000000) × (length buf ≡ 65536)
+
+abbrev μ-loop : tie.MeasureT-loop
+μ-loop buf₀ number₀ t6 buf number = 1000000 - number
+
+-- the sheet lies within the buffer
+within : (c : tie.After-sheet Inv-loop μ-loop)
+    → Within (Got.Cells (c .sheet .given .0 .0)) (length ((c .before .before .before) .read-sheet .last .0))
+within c = rw (c .sheet .given .1) at ((c .before .before .before) .read-sheet .ensures)
+
+array-share-prefix-buf : tie.Need-array-share-prefix-buf Inv-loop μ-loop
+array-share-prefix-buf c = within (c .before)
+
+slice-aggregate-run-statement : tie.Need-slice-aggregate-run-statement Inv-loop μ-loop
+slice-aggregate-run-statement c = sym (length-take-le _ _ (within (c .before .before)))
+
+pub main-spec : {M : Type 1} → statement M
+main-spec =
+    tie.close
+    (tie.spec Inv-loop μ-loop (λ c κs. search needs) (λ c. search needs) (λ c. search needs) (λ c κs. search needs)
+    (λ c. search needs) (λ c. search needs) (λ c. search needs) array-share-prefix-buf
+    slice-aggregate-run-statement (λ c κs. search needs) (λ c. search needs) (λ c κs. search needs)
+    (λ c. search needs) (λ c. search needs) (λ c. search needs) (λ c. search needs) (λ c. search needs))

@@ -1,0 +1,8 @@
+-- What the program's safety rests on. Assumes nothing.
+use Prim.Native.Nat.{ℕ, _≤_}
+use Rattle.statement_vectors.specs.declared.Got.{Got}
+
+-- what was read lies within the buffer
+abbrev pub Within : Got → ℕ → Type 0
+Within (Got.Cells n) size = n ≤ size
+Within Got.Cut size = 0 ≤ size

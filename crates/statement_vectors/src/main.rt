@@ -1,0 +1,213 @@
+// Reads statements from standard input, checks each against its sheet by the function for C, and prints the number and the place of
+// the answer.
+// A statement is a length and a sheet of that many bytes, a price, and figures, money, schedule and amounts, each a count and that many
+// cells. Numbers have 32 bits, the low byte first; a cell of money has 64.
+use input::Input;
+use libc::STDERR_FILENO;
+use libc::STDOUT_FILENO;
+ghost use Prim.Native.Nat.{_<_, _+_};
+ghost use lib.ListN.{length};
+ghost use Rattle.statement_vectors.specs.Pieces.{Within};
+
+// The next number, or none: the input ends, or cannot be read.
+enum Next {
+    Number(u32),
+    End,
+}
+
+// How many cells of a list, or bytes of a sheet, were read, or that the input ended within them or they are too many.
+enum Got {
+    Cells(usize),
+    Cut,
+}
+
+// More statements than these are not looked at.
+const MOST_STATEMENTS: u64 = 1000000;
+
+fn next_number() -> Next {
+    let mut head = [0u8; 4];
+    let got = input::read_all(&mut head);
+    let Input::Bytes(k) = got else {
+        return Next::End;
+    };
+    if k < 4 {
+        return Next::End;
+    }
+    let row = [
+        head[0],
+        head[1],
+        head[2],
+        head[3],
+        0,
+        0,
+        0,
+        0,
+        0,
+        0,
+        0,
+        0,
+        0,
+        0,
+        0,
+        0,
+    ];
+    Next::Number(rows::row_at(&row, 0).first)
+}
+
+fn read_sheet(buf: &mut [u8]) -> Got
+    ensures { λ r. ⌜ Within r (length (now (buf .exit))) ⌝ }
+{
+    let head = next_number();
+    let Next::Number(size) = head else {
+        return Got::Cut;
+    };
+    let n = size as usize;
+    if buf.len() < n {
+        return Got::Cut;
+    }
+    let got = input::read_all(&mut buf[..n]);
+    let Input::Bytes(k) = got else {
+        return Got::Cut;
+    };
+    if k < n { Got::Cut } else { Got::Cells(n) }
+}
+
+fn read_list(out: &mut [u32]) -> Got
+    ensures { λ r. ⌜ Within r (length (now (out .exit))) ⌝ }
+{
+    let head = next_number();
+    let Next::Number(count) = head else {
+        return Got::Cut;
+    };
+    let n = count as usize;
+    if out.len() < n {
+        return Got::Cut;
+    }
+    let mut i = 0;
+    while i < n {
+        let piece = next_number();
+        let Next::Number(x) = piece else {
+            return Got::Cut;
+        };
+        out[i] = x;
+        i += 1;
+    }
+    Got::Cells(n)
+}
+
+// So much below zero.
+fn minus(m: u64) -> i64
+    requires { ⌜ m < 9223372036854775807 ⌝ }
+{
+    0 - m as i64
+}
+
+// The number of 64 bits with a sign that these two halves are.
+fn signed(low: u32, high: u32) -> i64 {
+    if high < 2147483648 {
+        return (sums::wide(high) * 4294967296 + sums::wide(low)) as i64;
+    }
+    let below = sums::wide(4294967295 - high) * 4294967296 + sums::wide(4294967295 - low);
+    if below < 9223372036854775806 {
+        return minus(below + 1);
+    }
+    0
+}
+
+fn read_money(out: &mut [i64]) -> Got
+    ensures { λ r. ⌜ Within r (length (now (out .exit))) ⌝ }
+{
+    let head = next_number();
+    let Next::Number(count) = head else {
+        return Got::Cut;
+    };
+    let n = count as usize;
+    if out.len() < n {
+        return Got::Cut;
+    }
+    let mut i = 0;
+    while i < n {
+        let first = next_number();
+        let Next::Number(low) = first else {
+            return Got::Cut;
+        };
+        let second = next_number();
+        let Next::Number(high) = second else {
+            return Got::Cut;
+        };
+        let m = signed(low, high);
+        out[i] = m;
+        i += 1;
+    }
+    Got::Cells(n)
+}
+
+fn print_answer(number: u64, refusal: u32, place: u32) {
+    io::write_all(STDOUT_FILENO, b"statement ");
+    io::print_decimal(STDOUT_FILENO, number);
+    io::write_all(STDOUT_FILENO, b" ");
+    io::print_decimal(STDOUT_FILENO, refusal as u64);
+    io::write_all(STDOUT_FILENO, b" ");
+    io::print_decimal(STDOUT_FILENO, place as u64);
+    io::write_all(STDOUT_FILENO, b"\n");
+}
+
+// Reads the lists of a statement of this sheet, checks it, and prints the answer. False where the input ended within it.
+fn run_statement(number: u64, sheet: &[u8]) -> bool {
+    let mut figures = [0u32; 1024];
+    let mut money = [0i64; 1024];
+    let mut schedule = [0u32; 1024];
+    let mut amounts = [0u32; 1024];
+    let head = next_number();
+    let Next::Number(price) = head else {
+        return false;
+    };
+    let first = read_list(&mut figures);
+    let Got::Cells(f) = first else {
+        return false;
+    };
+    let second = read_money(&mut money);
+    let Got::Cells(m) = second else {
+        return false;
+    };
+    let third = read_list(&mut schedule);
+    let Got::Cells(s) = third else {
+        return false;
+    };
+    let fourth = read_list(&mut amounts);
+    let Got::Cells(t) = fourth else {
+        return false;
+    };
+    let mut answer = [0u32; 2];
+    capi::naomhral_check(
+        sheet,
+        price,
+        &figures[..f],
+        &money[..m],
+        &schedule[..s],
+        &amounts[..t],
+        &mut answer,
+    );
+    print_answer(number, answer[0], answer[1]);
+    true
+}
+
+fn main() {
+    let mut buf = io::large_buffer();
+    let mut number: u64 = 0;
+    while number < MOST_STATEMENTS {
+        let sheet = read_sheet(&mut buf);
+        let Got::Cells(n) = sheet else {
+            return;
+        };
+        let whole = run_statement(number, &buf[..n]);
+        if !whole {
+            io::write_all(
+                STDERR_FILENO,
+                b"statement_vectors: the input ends within a statement\n",
+            );
+            return;
+        }
+        number += 1;
+    }
+}
