@@ -54,6 +54,10 @@ notThere = 12
 abbrev pub overrun : ℕ
 overrun = 13
 
+-- 16: an hour's numbers are over what a day's book holds
+abbrev pub overBook : ℕ
+overBook = 16
+
 -- 21 to 25, of an administrator's statement: loss shares, schedule, price, contract amounts or lines that do not follow
 abbrev pub badShares : ℕ
 badShares = 21

@@ -35,6 +35,8 @@ impl Refusal {
 
     pub const OVERRUN: u32 = 13;
 
+    pub const OVER_BOOK: u32 = 16;
+
     pub const SHARES: u32 = 21;
 
     pub const SCHEDULE: u32 = 22;

@@ -1,10 +1,16 @@
 -- Laws of `sum` and `peak`, over any number of terms. Assumes nothing.
-use Prim.Native.Nat.{ℕ, zero, suc, _+_, _-_, _*_, _≤_, _<_, max, zero-le}
+use Prim.Native.Nat.{ℕ, zero, suc, _+_, _-_, _*_, _^_, _≤_, _<_, max, zero-le}
+use native.Mathlib.Nat.{le-of-lt, lt-of-le-of-lt, mul-le-mul-left, mul-lt-mul-of-pos-right}
+use lib.Pow.{pow-pos}
 use native.Mathlib.Omega.{arith}
 use native.Mathlib.Numerals.{add-one}
 use native.Mathlib.Decide.{decLt}
 use mathlib.Core.Path.{_≡_, refl, ap, ap₂, _∙_, sym}
 use Rattle.sums.specs.Sums.{sum, peak}
+
+-- the product of two 32-bit numbers fits 64 bits
+pub product-fits : {a b : ℕ} → a < 2 ^ 32 → b < 2 ^ 32 → a * b < 2 ^ 64
+product-fits {a} {b} ha hb = lt-of-le-of-lt (mul-le-mul-left a (le-of-lt hb)) (mul-lt-mul-of-pos-right ha (pow-pos 32))
 
 pub sum-none : (f : ℕ → ℕ) → sum 0 f ≡ 0
 unfolding sum
@@ -36,6 +42,18 @@ sum-lt (suc n) k f g h l s = go (decLt k n) (λ m. sum-lt n k f g (λ i q. h i (
     go (no m) r =
         let e : k ≡ n = omega arith in
         omega (arith, sum-le n f g (λ i q. h i (omega arith)), rw e at s)
+
+-- one term changed
+pub sum-turned : (n k : ℕ) (f g : ℕ → ℕ) → k < n → ((i : ℕ) → (i ≡ k → ⊥) → g i ≡ f i) → sum n g + f k ≡ sum n f + g k
+unfolding sum
+sum-turned zero k f g l h = absurd (omega arith)
+sum-turned (suc n) k f g l h = go (decLt k n) (λ m. sum-turned n k f g m h)
+  where
+    go : Dec (k < n) → (k < n → sum n g + f k ≡ sum n f + g k) → (sum n g + g n) + f k ≡ (sum n f + f n) + g k
+    go (yes m) r = omega (arith, r m, h n (λ e. omega arith))
+    go (no m) r =
+        let e : k ≡ n = omega arith in
+        rw e (omega (arith, sum-eq n g f (λ i q. h i (λ d. omega arith))))
 
 pub sum-add : (n : ℕ) (f g : ℕ → ℕ) → sum n (λ i. f i + g i) ≡ sum n f + sum n g
 unfolding sum

@@ -1,0 +1,7 @@
+use borrow.Author.Needs.{needs}
+use Rattle.book.proofs.empty.Statement.{statement}
+use Rattle.book.proofs.empty.Tie as tie
+
+pub empty-spec : {M : Type 1} → statement M
+empty-spec = tie.close
+    (tie.spec (λ c κs. search needs) (λ c. cc))
