@@ -59,9 +59,13 @@ distancesGood s c =
     && eqb (wordsAt s (t + 1) .first) (16 * (trailerStart c - plantStart c))
     && eqb (wordsAt s (t + 1) .third) (16 * (trailerStart c - contractStart c))
 
+-- the counts are within their limits, and the length is the one that they ask for
+abbrev pub countsFit : List ℕ → Bool
+countsFit s = let c = countsOf s in countsGood c && eqb (length s) (sheetLength c)
+
 -- refusal 2 is given exactly where this is false
 unfoldable pub layoutGood : List ℕ → Bool
-layoutGood s = let c = countsOf s in countsGood c && eqb (length s) (sheetLength c) && distancesGood s c
+layoutGood s = countsFit s && distancesGood s (countsOf s)
 
 -- ---- refusals 3 to 6
 

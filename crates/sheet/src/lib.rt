@@ -2,7 +2,7 @@
 ghost use mathlib.Core.Path.{_≡_};
 ghost use Prim.Native.Nat.{_+_, _*_, _≤_, _<_};
 ghost use lib.ListN.{length};
-ghost use Rattle.sheet.specs.Reading.{trailerStart, lengthGood, countsOf, countsGood, distancesGood, layoutGood, readOf};
+ghost use Rattle.sheet.specs.Reading.{trailerStart, lengthGood, countsOf, countsGood, countsFit, distancesGood, layoutGood, readOf};
 ghost use Rattle.sheet.specs.Asking.{rowsIn, rowsBefore, sectionOf, agentFields, boundaryFields, plantFields, contractFields, verdictIn, fieldsIn};
 ghost use Rattle.sheet.specs.Sections.{Addable, Placeable, kindIn, agentRowGood, boundaryRowGood, plantRowGood, contractRowGood, rowGood, toldIn, sectionVerdict, rowsVerdict, Laid};
 use refusals::Refusal;
@@ -14,6 +14,7 @@ use rows::Plant;
 use rows::Words;
 
 pub mod asking;
+pub mod counting;
 pub mod opened;
 
 // How many rows each section has.
@@ -52,7 +53,7 @@ pub enum RowRead {
 }
 
 // Refusal 1 is given where this is false.
-fn length_good(n: usize) -> bool
+pub(crate) fn length_good(n: usize) -> bool
     ensures { λ r. ⌜ r ≡ lengthGood n ⌝ }
 {
     (32 <= n) & (n <= Counts::LONGEST) & (n % 16 == 0)
@@ -65,7 +66,7 @@ fn count(x: u32) -> usize
     x as usize
 }
 
-fn counts_of(s: &[u8]) -> Counts
+pub(crate) fn counts_of(s: &[u8]) -> Counts
     requires { ⌜ 32 ≤ length (now s) ⌝ }
     ensures { λ r. ⌜ (r ≡ countsOf (now (s .entry))) × Addable r ⌝ }
 {
@@ -111,12 +112,20 @@ fn size(c: Counts) -> usize
     16 * (c.agents + c.boundaries + c.plants + c.contracts) + 32
 }
 
+// The counts are within their limits, and the length is the one that they ask for.
+pub(crate) fn counts_fit(s: &[u8], c: Counts) -> bool
+    requires { ⌜ (c ≡ countsOf (now s)) × Addable c ⌝ }
+    ensures { λ r. ⌜ r ≡ countsFit (now (s .entry)) ⌝ }
+{
+    counts_good(c) & (s.len() == size(c))
+}
+
 // Refusal 2 is given where this is false.
 fn layout_good(s: &[u8], c: Counts) -> bool
     requires { ⌜ (32 ≤ length (now s)) × (c ≡ countsOf (now s)) × Addable c ⌝ }
     ensures { λ r. ⌜ r ≡ layoutGood (now (s .entry)) ⌝ }
 {
-    counts_good(c) & (s.len() == size(c)) & distances_good(s, c)
+    counts_fit(s, c) & distances_good(s, c)
 }
 
 // A row's fields as five numbers.

@@ -10,4 +10,4 @@ returns c = cc
 pub layout-good-spec : {M : Type 1} → statement M
 layout-good-spec =
     tie.close
-    (tie.spec (λ c κs. search needs) (λ c κs. search needs) (λ c κs. search needs) returns)
+    (tie.spec (λ c κs. search needs) (λ c κs. search needs) returns)

@@ -1,0 +1,314 @@
+// Reads sheets from standard input and prints what mending answers to each: how many changes, and a line a change.
+// A case is a 32-bit length, the low byte first, that many bytes, and two 32-bit numbers: the room of the copy in bytes, and that of
+// the report in changes. A copy that isn't the sheet with just the changes reported, or a byte or cell that was not to be written
+// and was, is told in a line that no expected answer has.
+ghost use Prim.Native.Nat.{_≤_, _<_};
+use input::Input;
+use libc::STDERR_FILENO;
+use libc::STDOUT_FILENO;
+use mend::Mending;
+use refusals::Refusal;
+use rows::Words;
+
+// What stands in the lent lists before, so that a write can be seen.
+const BYTE: u8 = 165;
+
+const CELL: u32 = 2779096485;
+
+// How a buffer was filled: all of it, not at all for the input had ended, in part, or the reading failed; or it is too short.
+enum Got {
+    Full,
+    End,
+    Cut,
+    Failed,
+    Long,
+}
+
+fn how_full(n: usize, wanted: usize) -> Got {
+    if n == wanted {
+        Got::Full
+    } else if n == 0 {
+        Got::End
+    } else {
+        Got::Cut
+    }
+}
+
+// Reads until the buffer is full.
+fn fill(buf: &mut [u8]) -> Got {
+    match input::read_all(buf) {
+        Input::Bytes(n) => how_full(n, buf.len()),
+        Input::Failed => Got::Failed,
+    }
+}
+
+fn say(text: &[u8]) {
+    io::write_all(STDOUT_FILENO, text);
+}
+
+fn print_number(n: u64) {
+    io::print_decimal(STDOUT_FILENO, n);
+}
+
+fn print_refused(r: Refusal) {
+    say(b"refused ");
+    print_number(r.number as u64);
+    say(b" ");
+    print_number(r.place as u64);
+    say(b"\n");
+}
+
+fn wide(x: u8) -> u32 {
+    x as u32
+}
+
+// Byte k of a list, and number j of change i in a report; 0 past the end.
+fn byte(s: &[u8], k: usize) -> u32 {
+    if k < s.len() { wide(s[k]) } else { 0 }
+}
+
+fn figure(report: &[u32], i: usize, j: usize) -> u32
+    requires { ⌜ j < 3 ⌝ }
+{
+    if i < report.len() / 3 {
+        report[3 * i + j]
+    } else {
+        0
+    }
+}
+
+// Whether nothing was written from there on.
+fn bytes_kept(copy: &[u8], from: usize) -> bool {
+    for k in from..copy.len() {
+        if copy[k] != BYTE {
+            return false;
+        }
+    }
+    true
+}
+
+fn cells_kept(report: &[u32], from: usize) -> bool {
+    for k in from..report.len() {
+        if report[k] != CELL {
+            return false;
+        }
+    }
+    true
+}
+
+// Where the cells of n changes end.
+fn cells(report: &[u32], n: usize) -> usize {
+    if n < report.len() / 3 {
+        3 * n
+    } else {
+        report.len()
+    }
+}
+
+// Whether byte k is as it was, or change i is its change, from the old byte to the new one.
+fn is_told(report: &[u32], i: usize, k: usize, old: u32, new: u32) -> bool {
+    (old == new)
+        | ((figure(report, i, 0) as usize == k)
+            & (figure(report, i, 1) == old)
+            & (figure(report, i, 2) == new))
+}
+
+// 1 where a byte is changed.
+fn changed(old: u32, new: u32) -> usize
+    ensures { λ r. ⌜ r ≤ 1 ⌝ }
+{
+    if old == new { 0 } else { 1 }
+}
+
+// Whether the copy is the sheet but for the n changes reported, which stand in rising place.
+fn as_reported(s: &[u8], copy: &[u8], report: &[u32], n: usize) -> bool {
+    let mut i: usize = 0;
+    for k in 0..s.len() {
+        let old = byte(s, k);
+        let new = byte(copy, k);
+        if !is_told(report, i, k, old, new) {
+            return false;
+        }
+        i += changed(old, new);
+    }
+    i == n
+}
+
+fn print_change(report: &[u32], i: usize) {
+    print_number(figure(report, i, 0) as u64);
+    say(b" ");
+    print_number(figure(report, i, 1) as u64);
+    say(b" ");
+    print_number(figure(report, i, 2) as u64);
+    say(b"\n");
+}
+
+fn print_changes(report: &[u32], n: usize) {
+    for i in 0..n {
+        print_change(report, i);
+    }
+}
+
+fn print_mended(s: &[u8], copy: &[u8], report: &[u32], n: usize) {
+    say(b"mended ");
+    print_number(n as u64);
+    say(b"\n");
+    print_changes(report, n);
+    if !as_reported(s, copy, report, n) {
+        say(b"the copy is not the sheet with these changes\n");
+    }
+    if !(bytes_kept(copy, s.len()) & cells_kept(report, cells(report, n))) {
+        say(b"more was written than was needed\n");
+    }
+}
+
+fn print_refusal(r: Refusal, copy: &[u8], report: &[u32]) {
+    print_refused(r);
+    if !(bytes_kept(copy, 0) & cells_kept(report, 0)) {
+        say(b"a refusal has written\n");
+    }
+}
+
+fn print_case(case: u64, s: &[u8], copy: &mut [u8], report: &mut [u32]) {
+    say(b"case ");
+    print_number(case);
+    say(b"\n");
+    let answer = mend::mend(s, copy, report);
+    match answer {
+        Mending::Done(n) => print_mended(s, copy, report, n),
+        Mending::Refused(r) => print_refusal(r, copy, report),
+    }
+}
+
+// What stopped the program; nothing where the input just ended.
+fn complain(got: Got) {
+    match got {
+        Got::Failed => {
+            io::write_all(STDERR_FILENO, b"mend_vectors: the input cannot be read\n");
+        }
+        Got::Cut => {
+            io::write_all(
+                STDERR_FILENO,
+                b"mend_vectors: the input ends within a case\n",
+            );
+        }
+        Got::Long => {
+            io::write_all(STDERR_FILENO, b"mend_vectors: a case is too long\n");
+        }
+        _ => {}
+    }
+}
+
+// The first n bytes of a row that is read, the rest 0; or what came instead.
+enum Head {
+    Row(Words),
+    Stopped(Got),
+}
+
+fn read_front(head: &mut [u8], n: usize) -> Head {
+    if head.len() < n {
+        return Head::Stopped(Got::Long);
+    }
+    let got = fill(&mut head[..n]);
+    match got {
+        Got::Full => Head::Row(rows::row_at(head, 0)),
+        _ => Head::Stopped(got),
+    }
+}
+
+fn read_head(n: usize) -> Head {
+    let mut head = [0u8; 16];
+    read_front(&mut head, n)
+}
+
+// Lends just the room that the case says, and says whether there is so much.
+fn lend_front(
+    case: u64,
+    s: &[u8],
+    copy: &mut [u8],
+    bytes: usize,
+    report: &mut [u32],
+    cells: usize,
+) -> bool {
+    if copy.len() < bytes {
+        complain(Got::Long);
+        return false;
+    }
+    if report.len() < cells {
+        complain(Got::Long);
+        return false;
+    }
+    print_case(case, s, &mut copy[..bytes], &mut report[..cells]);
+    true
+}
+
+// The room of the copy in bytes, and that of the report in changes.
+fn lend(case: u64, s: &[u8], bytes: usize, changes: u32) -> bool {
+    let mut copy = [BYTE; 16384];
+    let mut report = [CELL; 6144];
+    lend_front(
+        case,
+        s,
+        &mut copy,
+        bytes,
+        &mut report,
+        3 * (changes as usize),
+    )
+}
+
+// The room of copy and report, behind the sheet; and whether to go on.
+fn run_rooms(case: u64, s: &[u8]) -> bool {
+    let head = read_head(8);
+    match head {
+        Head::Row(w) => lend(case, s, w.first as usize, w.second),
+        Head::Stopped(_) => {
+            complain(Got::Cut);
+            false
+        }
+    }
+}
+
+// A case whose sheet has n bytes.
+fn run_sheet(case: u64, n: usize, buf: &mut [u8]) -> bool {
+    if buf.len() < n {
+        complain(Got::Long);
+        return false;
+    }
+    let got = fill(&mut buf[..n]);
+    if buf.len() < n {
+        return false;
+    }
+    match got {
+        Got::Full => run_rooms(case, &buf[..n]),
+        Got::End => {
+            complain(Got::Cut);
+            false
+        }
+        _ => {
+            complain(got);
+            false
+        }
+    }
+}
+
+fn run_case(case: u64) -> bool {
+    let mut buf = [0u8; 16384];
+    let head = read_head(4);
+    match head {
+        Head::Row(w) => run_sheet(case, w.first as usize, &mut buf),
+        Head::Stopped(got) => {
+            complain(got);
+            false
+        }
+    }
+}
+
+fn main() {
+    let mut case: u64 = 0;
+    while case < 1000000 {
+        if !run_case(case) {
+            return;
+        }
+        case += 1;
+    }
+}
