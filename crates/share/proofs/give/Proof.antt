@@ -1,70 +1,128 @@
-use mathlib.Core.Path.{_≡_, refl}
-use Prim.Native.Nat.{_-_, _≤_, _<_}
+use mathlib.Core.Path.{_≡_, refl, sym, ap, _∙_}
+use Prim.Native.Nat.{ℕ, _+_, _-_, _≤_, _<_}
 use native.Mathlib.Omega.{arith}
+use native.Mathlib.Nat.{le-refl}
 use borrow.Author.Needs.{needs}
+use lib.Dec.{eqb}
 use lib.ListN.{length}
-use Rattle.sums.specs.Lists.{at}
-use Rattle.share.specs.Order.{weightNumber, UnitsGiven}
-use Rattle.share.proofs.Keys.{given-none, given-more, given-le}
+use Rattle.sums.specs.Sums.{pick, keyed}
+use Rattle.sums.specs.Lists.{at, Filled}
+use Rattle.sums.proofs.Keyed.{keyed-none, keyed-step}
+use Rattle.sums.proofs.Fill.{filled-none, filled-more}
+use Rattle.share.specs.Share.{shareOf, floorOf}
+use Rattle.share.specs.Lacks.{lackOf, one}
+use Rattle.crossing.specs.Crossing.{taken}
+use Rattle.share.proofs.Laws.{share-most}
+use Rattle.share.proofs.Lacks.{total-pos, share-taken, lack-asked, lack-is}
 use Rattle.share.proofs.give.Statement.{statement}
 use Rattle.share.proofs.give.Tie as tie
 
 abbrev Inv-loop : tie.InvT-loop
-Inv-loop keys n out₀ q₀ out q = (q ≤ n) × (length out ≡ length out₀) × UnitsGiven keys q out₀ out
+Inv-loop amount weights t x left out₀ rest₀ i₀ out rest i =
+    (i ≤ length weights) × (length out ≡ length out₀) × (rest ≡ left - keyed (lackOf amount weights) one i x) × Filled 0 out₀ out i (shareOf amount weights)
 
 abbrev μ-loop : tie.MeasureT-loop
-μ-loop keys n out₀ q₀ out q = n - q
+μ-loop amount weights t x left out₀ rest₀ i₀ out rest i = length weights - i
+
+-- ways back: X-to-Y leads from the place X of the code to the earlier place Y
+abbrev shared-slice-known2-to-loop : tie.After-shared-slice-known2 Inv-loop μ-loop → tie.At-loop Inv-loop μ-loop
+shared-slice-known2-to-loop c = c .before .before .before
+
+abbrev shared-slice-known2-to-start : tie.After-shared-slice-known2 Inv-loop μ-loop → tie.Start Inv-loop μ-loop
+shared-slice-known2-to-start c = c .before .before .before .before .before .before
+
+abbrev lack-to-loop : tie.After-lack Inv-loop μ-loop → tie.At-loop Inv-loop μ-loop
+lack-to-loop c = c .before .before .before .before
+
+abbrev lack-to-start : tie.After-lack Inv-loop μ-loop → tie.Start Inv-loop μ-loop
+lack-to-start c = shared-slice-known2-to-start (c .before)
+
+abbrev unit-to-loop : tie.After-unit Inv-loop μ-loop → tie.At-loop Inv-loop μ-loop
+unit-to-loop c = c .before .before .before .before .before
+
+abbrev unit-to-start : tie.After-unit Inv-loop μ-loop → tie.Start Inv-loop μ-loop
+unit-to-start c = lack-to-start (c .before)
+
+abbrev less-to-lack : tie.After-less Inv-loop μ-loop → tie.After-lack Inv-loop μ-loop
+less-to-lack c = c .before .before .before
+
+abbrev less-to-loop : tie.After-less Inv-loop μ-loop → tie.At-loop Inv-loop μ-loop
+less-to-loop c = unit-to-loop (c .before .before)
+
+abbrev less-to-start : tie.After-less Inv-loop μ-loop → tie.Start Inv-loop μ-loop
+less-to-start c = unit-to-start (c .before .before)
 
 loop-holds : tie.Need-loop-holds Inv-loop μ-loop
-loop-holds c = (omega arith, refl, given-none _ _)
+loop-holds c = (omega arith, refl, rw keyed-none (omega arith), filled-none 0 _ _)
 
-there : (c : tie.In-loop Inv-loop μ-loop)
-    → weightNumber (at ((c .before .before) .args .keys .now) ((c .before) .loop .q))
-    < length ((c .before .before) .args .out .now)
-there c = (c .before .before) .pre .there ((c .before) .loop .q) (omega arith)
+lack-requires : tie.Need-lack-requires Inv-loop μ-loop
+lack-requires c κs =
+    let a = shared-slice-known2-to-start c .args in
+    let l = shared-slice-known2-to-loop c .loop in
+    lack-asked (a .amount) (a .weights .now) (a .t) (a .out .now) (shared-slice-known2-to-start c .pre .0) (l .i) (omega arith) _ (l .inv .3 .kept (l .i) (le-refl (l .i)))
 
-shared-slice-read-i : tie.Need-shared-slice-read-i Inv-loop μ-loop
-shared-slice-read-i c = omega (arith, (c .before .before .before) .pre .listed)
+-- the lack is the definition's
+lacks : (c : tie.After-lack Inv-loop μ-loop) → c .lack .result ≡ lackOf (lack-to-start c .args .amount) (lack-to-start c .args .weights .now) (lack-to-loop c .loop .i)
+lacks c =
+    let a = lack-to-start c .args in
+    lack-is (a .amount) (a .weights .now) (a .t) (a .out .now) (lack-to-start c .pre .0) (lack-to-loop c .loop .i) (omega arith) _ (c .lack .ensures .0)
 
-mul-out : tie.Need-mul-out Inv-loop μ-loop
-mul-out c = omega (arith, there (c .before))
-
-slice-read-out : tie.Need-slice-read-out Inv-loop μ-loop
-slice-read-out c = omega (arith, there (c .before .before))
+-- the floor and the unit make the share
+shares : (c : tie.After-unit Inv-loop μ-loop) → at (unit-to-loop c .loop .out) (unit-to-loop c .loop .i) + c .unit .result ≡ shareOf (unit-to-start c .args .amount) (unit-to-start c .args .weights .now) (unit-to-loop c .loop .i)
+shares c =
+    let a = unit-to-start c .args in
+    let l = unit-to-loop c .loop in
+    let h = unit-to-start c .pre .0 in
+    omega (
+      arith,
+      l .inv .3 .kept (l .i) (le-refl (l .i)),
+      h .floors (l .i) (omega arith),
+      c .unit .ensures,
+      ap (λ (z : ℕ). taken z (a .x) 1 (l .rest)) (lacks (c .before)),
+      share-taken (a .amount) (a .weights .now) (total-pos (a .weights .now) (a .t) (h .sharing)) (a .x) (a .left) (unit-to-start c .pre .1) (l .i) (l .rest) (omega arith) (l .inv .2),
+    )
 
 add-out : tie.Need-add-out Inv-loop μ-loop
 add-out c =
-    let s = c .before .before .before .before in
-    let l = c .before .before .before .loop in
-    let i = weightNumber (at (s .args .keys .now) (l .q)) in
-    omega (
-      arith,
-      given-le (s .args .keys .now) (s .args .out .now) (l .out) (l .q) i (l .inv .2),
-      s .pre .fits (l .q) (omega arith),
-    )
-
-slice-write-out : tie.Need-slice-write-out Inv-loop μ-loop
-slice-write-out c = omega (arith, there (c .before .before))
+    let a = unit-to-start c .args in
+    omega (arith, shares c, share-most (a .amount) (a .weights .now) (unit-to-loop c .loop .i) (omega arith))
 
 loop-again : tie.Need-loop-again Inv-loop μ-loop
 loop-again c =
-    let s = c .before .before .before .before in
-    let l = c .before .before .before .loop in (
+    let a = less-to-start c .args in
+    let l = less-to-loop c .loop in (
       omega arith,
       search needs,
-      given-more (s .args .keys .now) (s .args .out .now) (l .out) (l .q) (omega (arith, there (c .before .before)))
-          (l .inv .2),
+      omega (arith, keyed-step (lackOf (a .amount) (a .weights .now)) one (l .i) (a .x), ap (λ (z : ℕ). pick (eqb z (a .x)) 1) (lacks (less-to-lack c))),
+      filled-more 0 _ _ _ _ _ (omega arith) (shares (c .before .before)) (l .inv .3),
     )
 
 returns : tie.Need-returns Inv-loop μ-loop
 returns c =
-    let l = c .before .loop in
-    let e : l .q ≡ (c .before .before) .args .n = omega arith in
-    rw e at (l .inv .2)
+    let at-start = c .before .before .before .before in
+    let e : (c .before) .loop .i ≡ length (at-start .args .weights .now) = omega arith in
+    rw e at ((c .before) .loop .inv .3)
 
 pub give-spec : {M : Type 1} → statement M
 give-spec =
     tie.close
-    (tie.spec Inv-loop μ-loop loop-holds (λ c. search needs) (λ c. omega (arith, c .before .before .pre .listed))
-    shared-slice-read-i (λ c. search needs) mul-out slice-read-out add-out slice-write-out
-    (λ c. search needs) (λ c. search needs) loop-again (λ c. search needs) returns)
+    (tie.spec
+    Inv-loop
+    μ-loop
+    loop-holds
+    (λ c. search needs)
+    (λ c. search needs)
+    (λ c. search needs)
+    (λ c. search needs)
+    lack-requires
+    (λ c κs. search needs)
+    add-out
+    (λ c. search needs)
+    (λ c. search needs)
+    (λ c κs. search needs)
+    (λ c κs. search needs)
+    (λ c. search needs)
+    (λ c. search needs)
+    loop-again
+    (λ c. search needs)
+    returns)
