@@ -20,7 +20,7 @@ use Rattle.refusals.proofs.Fine.{fine-left, fine-right, fine-test}
 use Rattle.book.specs.declared.Place.{Place}
 use Rattle.book.specs.declared.Totals.{Totals}
 use Rattle.book.specs.declared.Book.{Book}
-use Rattle.book.specs.Book.{hours, mostEnergy, mostPrice, blank, holding, placeAt, moneyOf, moved, withPlace, hourVerdict, fits, entryVerdict, unlessRefused, Does, Proper, Kept}
+use Rattle.book.specs.Book.{hours, mostEnergy, mostHourPrice, blank, holding, placeAt, moneyBought, moved, withPlace, slotVerdict, fits, entryVerdict, unlessRefused, Does, Proper, Kept}
 use Rattle.book.specs.Told.{toldOf, slotOf, Turns, Room, Carried, Carries}
 
 -- ---- places
@@ -33,30 +33,30 @@ pub proper-held : (demand losses bought price : ℕ)
     → Proper (holding demand losses bought price)
 proper-held d l b p e =
     let (d′, (l′, (b′, (p′, _)))) = all-true (leb d mostEnergy)
-    (leb l mostEnergy ∷ leb b mostEnergy ∷ leb p mostPrice ∷ []) e in
+    (leb l mostEnergy ∷ leb b mostEnergy ∷ leb p mostHourPrice ∷ []) e in
     record {
       demand = leb-true d mostEnergy d′;
       losses = leb-true l mostEnergy l′;
       bought = leb-true b mostEnergy b′;
-      price = leb-true p mostPrice p′;
+      price = leb-true p mostHourPrice p′;
       empty = λ f. absurd (true≢false f);
     }
 
-pub money-most : (p : Place) → Proper p → moneyOf p ≤ mostEnergy * mostPrice
-money-most p w = mul-le-mul {n₂ = mostEnergy} {m₂ = mostPrice} (w .bought) (w .price)
+pub money-most : (p : Place) → Proper p → moneyBought p ≤ mostEnergy * mostHourPrice
+money-most p w = mul-le-mul {n₂ = mostEnergy} {m₂ = mostHourPrice} (w .bought) (w .price)
 
 -- ---- what a verdict that is fine says of the hour and of what is entered
-pub fine-hour : (h : ℕ) → hourVerdict h ≡ Verdict.Fine → h < hours
+pub fine-hour : (h : ℕ) → slotVerdict h ≡ Verdict.Fine → h < hours
 fine-hour h e = ltb-true h hours (fine-test (ltb h hours) notThere h e)
 
 module _ (h d l b p : ℕ) (e : entryVerdict h d l b p ≡ Verdict.Fine) where
   pub entry-hour : h < hours
-  entry-hour = fine-hour h (fine-left (hourVerdict h) _ e)
+  entry-hour = fine-hour h (fine-left (slotVerdict h) _ e)
 
   pub entry-proper : Proper (holding d l b p)
   entry-proper =
       proper-held d l b p (fine-test (fits d l b p) overBook h
-      (fine-left _ Verdict.Fine (fine-right (hourVerdict h) _ e)))
+      (fine-left _ Verdict.Fine (fine-right (slotVerdict h) _ e)))
 
 -- ---- what a call tells, from its verdict
 module _ (v : Verdict) (old new : Place) (t : Totals) where
@@ -89,10 +89,10 @@ module _ (b : Book) (k : Kept b) (h : ℕ) (l : h < hours) where
         demand = column (λ p. p .demand) mostEnergy (λ p w. w .demand);
         losses = column (λ p. p .losses) mostEnergy (λ p w. w .losses);
         bought = column (λ p. p .bought) mostEnergy (λ p w. w .bought);
-        money = column moneyOf (mostEnergy * mostPrice) money-most;
+        money = column moneyBought (mostEnergy * mostHourPrice) money-most;
       }
 
-turns : (t p q m : ℕ) → m ≤ mostEnergy * mostPrice → Carried t p m → q ≤ m → Turns t p q
+turns : (t p q m : ℕ) → m ≤ mostEnergy * mostHourPrice → Carried t p m → q ≤ m → Turns t p q
 turns t p q m s c w = record { held = c .held; fits = omega (arith, c .within) }
 
 pub room : (t : Totals) (old new : Place) → Carries t old → Proper new → Room t old new
@@ -100,7 +100,7 @@ room t old new c w = record {
   demand = turns _ _ _ mostEnergy (omega arith) (c .demand) (w .demand);
   losses = turns _ _ _ mostEnergy (omega arith) (c .losses) (w .losses);
   bought = turns _ _ _ mostEnergy (omega arith) (c .bought) (w .bought);
-  money = turns _ _ _ (mostEnergy * mostPrice) (omega arith) (c .money) (money-most new w);
+  money = turns _ _ _ (mostEnergy * mostHourPrice) (omega arith) (c .money) (money-most new w);
 }
 
 -- ---- the place that a call looks at is one of the book, and putting there what the call told leaves the book that it promises

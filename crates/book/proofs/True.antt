@@ -16,7 +16,7 @@ use Rattle.refusals.specs.declared.Verdict.{Verdict}
 use Rattle.book.specs.declared.Place.{Place}
 use Rattle.book.specs.declared.Totals.{Totals}
 use Rattle.book.specs.declared.Book.{Book}
-use Rattle.book.specs.Book.{hours, mostEnergy, mostPrice, blank, holding, placeAt, moneyOf, fresh, emptyBook, moved, withPlace, hourVerdict, entryVerdict, unlessRefused, entered, removed, Does, Proper, Kept}
+use Rattle.book.specs.Book.{hours, mostEnergy, mostHourPrice, blank, holding, placeAt, moneyBought, fresh, emptyBook, moved, withPlace, slotVerdict, entryVerdict, unlessRefused, entered, removed, Does, Proper, Kept}
 use Rattle.book.specs.Calls.{Call, called, after}
 use Rattle.book.proofs.Laws.{proper-blank, fine-hour, entry-hour, entry-proper, kept-carries}
 
@@ -44,7 +44,7 @@ empty-kept = record {
   proper = λ h l. subst Proper (sym (getD-replicate hours h blank blank l)) proper-blank;
   true-totals =
       same-totals (none (λ p. p .demand) refl) (none (λ p. p .losses) refl) (none (λ p. p .bought) refl)
-      (none moneyOf (omega arith));
+      (none moneyBought (omega arith));
 }
 
 -- ---- one place changed
@@ -87,7 +87,7 @@ module _ (b : Book) (k : Kept b) (h : ℕ) (p : Place) (l : h < hours) (w : Prop
         (column (λ p. p .demand) (b .totals .demand) (ap (λ (t : Totals). t .demand) (k .true-totals)))
         (column (λ p. p .losses) (b .totals .losses) (ap (λ (t : Totals). t .losses) (k .true-totals)))
         (column (λ p. p .bought) (b .totals .bought) (ap (λ (t : Totals). t .bought) (k .true-totals)))
-        (column moneyOf (b .totals .money) (ap (λ (t : Totals). t .money) (k .true-totals)));
+        (column moneyBought (b .totals .money) (ap (λ (t : Totals). t .money) (k .true-totals)));
   }
 
 -- ---- calls
@@ -102,7 +102,7 @@ module _ (b : Book) (k : Kept b) where
       (λ e. place-kept b k h _ (entry-hour h d l x p e) (entry-proper h d l x p e))
 
   remove-kept : (h : ℕ) → Kept (removed b h)
-  remove-kept h = unless-kept (hourVerdict h) b _ k (λ e. place-kept b k h blank (fine-hour h e) proper-blank)
+  remove-kept h = unless-kept (slotVerdict h) b _ k (λ e. place-kept b k h blank (fine-hour h e) proper-blank)
 
   -- for whoever made a call, and has its promise
   pub entered-kept : (h d l x p : ℕ) {r : Verdict} {c : Book}
@@ -110,7 +110,7 @@ module _ (b : Book) (k : Kept b) where
       → Kept c
   entered-kept h d l x p does = subst Kept (sym (does .left)) (enter-kept h d l x p)
 
-  pub removed-kept : (h : ℕ) {r : Verdict} {c : Book} → Does (hourVerdict h) (removed b h) r c → Kept c
+  pub removed-kept : (h : ℕ) {r : Verdict} {c : Book} → Does (slotVerdict h) (removed b h) r c → Kept c
   removed-kept h does = subst Kept (sym (does .left)) (remove-kept h)
 
 pub called-kept : (b : Book) (c : Call) → Kept b → Kept (called b c)

@@ -20,8 +20,8 @@ hours = 24
 abbrev pub mostEnergy : ℕ
 mostEnergy = 4000000000
 
-abbrev pub mostPrice : ℕ
-mostPrice = 1000000
+abbrev pub mostHourPrice : ℕ
+mostHourPrice = 1000000
 
 -- an empty place, and one that holds an hour
 abbrev pub blank : Place
@@ -35,8 +35,8 @@ abbrev pub placeAt : List Place → ℕ → Place
 placeAt places h = getD places h blank
 
 -- what a place's hour bought costs
-abbrev pub moneyOf : Place → ℕ
-moneyOf p = p .bought * p .price
+abbrev pub moneyBought : Place → ℕ
+moneyBought p = p .bought * p .price
 
 -- the totals as a fresh sum over the places
 abbrev pub fresh : List Place → Totals
@@ -44,7 +44,7 @@ fresh places = record {
   demand = sum hours (λ h. placeAt places h .demand);
   losses = sum hours (λ h. placeAt places h .losses);
   bought = sum hours (λ h. placeAt places h .bought);
-  money = sum hours (λ h. moneyOf (placeAt places h));
+  money = sum hours (λ h. moneyBought (placeAt places h));
 }
 
 abbrev pub emptyBook : Book
@@ -56,7 +56,7 @@ moved t old new = record {
   demand = t .demand - old .demand + new .demand;
   losses = t .losses - old .losses + new .losses;
   bought = t .bought - old .bought + new .bought;
-  money = t .money - moneyOf old + moneyOf new;
+  money = t .money - moneyBought old + moneyBought new;
 }
 
 -- the book with p at hour h, whatever stood there
@@ -64,18 +64,18 @@ abbrev pub withPlace : Book → ℕ → Place → Book
 withPlace b h p = record { places = set (b .places) h p; totals = moved (b .totals) (placeAt (b .places) h) p }
 
 -- refusals, place the hour: 12 for an hour outside 0 to 23
-abbrev pub hourVerdict : ℕ → Verdict
-hourVerdict h = refusedUnless (ltb h hours) notThere h
+abbrev pub slotVerdict : ℕ → Verdict
+slotVerdict h = refusedUnless (ltb h hours) notThere h
 
 -- then 16 if demand, losses or bought is over 4,000,000,000 or the price over 1,000,000
 abbrev pub fits : (demand losses bought price : ℕ) → Bool
-fits demand losses bought price = leb demand mostEnergy && leb losses mostEnergy && leb bought mostEnergy && leb price mostPrice
+fits demand losses bought price = leb demand mostEnergy && leb losses mostEnergy && leb bought mostEnergy && leb price mostHourPrice
 
 abbrev pub numbersVerdict : (h demand losses bought price : ℕ) → Verdict
 numbersVerdict h demand losses bought price = refusedUnless (fits demand losses bought price) overBook h
 
 abbrev pub entryVerdict : (h demand losses bought price : ℕ) → Verdict
-entryVerdict h demand losses bought price = firstOf (hourVerdict h ∷ numbersVerdict h demand losses bought price ∷ [])
+entryVerdict h demand losses bought price = firstOf (slotVerdict h ∷ numbersVerdict h demand losses bought price ∷ [])
 
 -- the book that a call leaves: a refusal leaves it unchanged
 abbrev pub unlessRefused : Verdict → (before after : Book) → Book
@@ -88,7 +88,7 @@ entered b h demand losses bought price =
     unlessRefused (entryVerdict h demand losses bought price) b (withPlace b h (holding demand losses bought price))
 
 abbrev pub removed : Book → ℕ → Book
-removed b h = unlessRefused (hourVerdict h) b (withPlace b h blank)
+removed b h = unlessRefused (slotVerdict h) b (withPlace b h blank)
 
 -- the promise of a call: its answer, and the whole book after it
 pub record Does (verdict : Verdict) (book : Book) (r : Verdict) (after : Book) : Type 0 where
@@ -100,7 +100,7 @@ pub record Proper (p : Place) : Type 0 where
   pub demand : p .demand ≤ mostEnergy
   pub losses : p .losses ≤ mostEnergy
   pub bought : p .bought ≤ mostEnergy
-  pub price : p .price ≤ mostPrice
+  pub price : p .price ≤ mostHourPrice
   pub empty : p .held ≡ false → p ≡ blank
 
 -- a book that came from the library's own calls: its totals are what a fresh sum over its places gives

@@ -6,7 +6,7 @@ use Rattle.refusals.specs.declared.Verdict.{Verdict}
 use Rattle.book.specs.declared.Place.{Place}
 use Rattle.book.specs.declared.Totals.{Totals}
 use Rattle.book.specs.declared.Told.{Told}
-use Rattle.book.specs.Book.{hours, mostEnergy, mostPrice, moneyOf, moved}
+use Rattle.book.specs.Book.{hours, mostEnergy, mostHourPrice, moneyBought, moved}
 
 -- what a call makes of its place and of the totals, by its verdict
 unfoldable pub toldOf : Verdict → (old : Place) → Totals → (new : Place) → Told
@@ -26,7 +26,7 @@ pub record Room (t : Totals) (old new : Place) : Type 0 where
   pub demand : Turns (t .demand) (old .demand) (new .demand)
   pub losses : Turns (t .losses) (old .losses) (new .losses)
   pub bought : Turns (t .bought) (old .bought) (new .bought)
-  pub money : Turns (t .money) (moneyOf old) (moneyOf new)
+  pub money : Turns (t .money) (moneyBought old) (moneyBought new)
 
 -- the totals of a day hold what one place has, and no more than the places can
 pub record Carried (total part most : ℕ) : Type 0 where
@@ -37,4 +37,4 @@ pub record Carries (t : Totals) (p : Place) : Type 0 where
   pub demand : Carried (t .demand) (p .demand) mostEnergy
   pub losses : Carried (t .losses) (p .losses) mostEnergy
   pub bought : Carried (t .bought) (p .bought) mostEnergy
-  pub money : Carried (t .money) (moneyOf p) (mostEnergy * mostPrice)
+  pub money : Carried (t .money) (moneyBought p) (mostEnergy * mostHourPrice)

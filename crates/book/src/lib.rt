@@ -3,7 +3,7 @@ ghost use mathlib.Core.Path.{_≡_};
 ghost use Prim.Native.Nat.{_+_, _*_, _-_};
 ghost use Rattle.refusals.specs.Refusals.{orElse};
 ghost use Rattle.refusals.specs.declared.Verdict.{Verdict};
-ghost use Rattle.book.specs.Book.{blank, holding, moved, emptyBook, fits, hourVerdict, numbersVerdict, entryVerdict, entered, removed, Kept, Does};
+ghost use Rattle.book.specs.Book.{blank, holding, moved, emptyBook, fits, slotVerdict, numbersVerdict, entryVerdict, entered, removed, Kept, Does};
 ghost use Rattle.book.specs.Told.{toldOf, slotOf, Turns, Room, Carries};
 use refusals::Refusal;
 use refusals::Verdict;
@@ -74,7 +74,7 @@ pub fn empty() -> Book
 }
 
 fn hour_verdict(hour: u32) -> Verdict
-    ensures { λ r. ⌜ r ≡ hourVerdict hour ⌝ }
+    ensures { λ r. ⌜ r ≡ slotVerdict hour ⌝ }
 {
     if hour < Book::HOURS {
         Verdict::Fine
@@ -210,7 +210,7 @@ fn entering(
 // What removing an hour makes of its place and the totals.
 fn removing(old: Place, totals: Totals, hour: u32) -> Told
     requires { ⌜ Carries totals old ⌝ }
-    ensures { λ r. ⌜ r ≡ toldOf (hourVerdict hour) old totals blank ⌝ }
+    ensures { λ r. ⌜ r ≡ toldOf (slotVerdict hour) old totals blank ⌝ }
 {
     let verdict = hour_verdict(hour);
     let new = nothing_held();
@@ -254,7 +254,7 @@ pub fn enter(
 // Removes an hour.
 pub fn remove(book: &mut Book, hour: u32) -> Verdict
     requires { ⌜ Kept (now book) ⌝ }
-    ensures { λ r. ⌜ Does (hourVerdict hour) (removed (now (book .entry)) hour) r (now (book .exit)) ⌝ }
+    ensures { λ r. ⌜ Does (slotVerdict hour) (removed (now (book .entry)) hour) r (now (book .exit)) ⌝ }
 {
     let at = slot(hour);
     let told = removing(book.places[at], book.totals, hour);
@@ -292,7 +292,7 @@ pub fn with_hour(
 // The same with an hour removed.
 pub fn without_hour(book: Book, hour: u32) -> Outcome
     requires { ⌜ Kept book ⌝ }
-    ensures { λ r. ⌜ Does (hourVerdict hour) (removed book hour) (r .verdict) (r .book) ⌝ }
+    ensures { λ r. ⌜ Does (slotVerdict hour) (removed book hour) (r .verdict) (r .book) ⌝ }
 {
     let mut lent = book;
     let verdict = remove(&mut lent, hour);

@@ -13,7 +13,7 @@ use Rattle.merit.proofs.MustRun.{ideal-within}
 use Rattle.merit.proofs.Price.{price-most}
 use Rattle.hour.specs.Sheet.{Sheet, agents, boundaries, plants, retails}
 use Rattle.hour.specs.Sound.{Sound}
-use Rattle.hour.specs.Balance.{referred, imported, exported, consumption, consumed, ownImport, entering, leaving, hourDemand}
+use Rattle.hour.specs.Balance.{referred, imported, exported, consumption, consumed, ownImport, entering, leaving, losses, hourDemand}
 use Rattle.hour.specs.Lines.{scheduled, bolsaPrice}
 
 -- a reading within its limit, at a factor within its limit
@@ -82,6 +82,10 @@ module _ (s : Sheet) where
           sum-most (boundaries s) 6000000 (λ j. referred (at (s .exports) j) (at (s .factors) j)) row-export-le,
           ok .few .boundaries,
         )
+
+    pub losses-le : losses s ≤ 1536000000
+    unfolding losses
+    losses-le = omega (arith, entering-le)
 
     pub consumed-most : consumed s ≤ 1536000000
     consumed-most = omega (arith, consumed-le, leaving-le)

@@ -9,10 +9,10 @@ use Rattle.sums.proofs.Keyed.{keyed-most}
 use Rattle.hour.specs.Sheet.{Sheet, agents, contracts, retails}
 use Rattle.hour.specs.Sound.{Sound}
 use Rattle.hour.specs.Balance.{commercial, demands, hourDemand}
-use Rattle.hour.specs.Lines.{amount, contracted}
+use Rattle.hour.specs.Lines.{amount, own, contracted, bought, sold}
 use Rattle.deals.proofs.Hours.{hour-le}
 use Rattle.hour.proofs.Verdicts.{Balanced}
-use Rattle.hour.proofs.Bounds.{entering-le}
+use Rattle.hour.proofs.Bounds.{imported-le, entering-le, import-le, made-le}
 use Rattle.hour.proofs.Demand.{demand-le, commercial-le}
 
 cond-le : (t : Bool) (x y m : ℕ) → x ≤ m → y ≤ m → cond t x y ≤ m
@@ -39,3 +39,16 @@ module _ (s : Sheet) (ok : Sound s) where
     module _ (a : ℕ) (l : a < agents s) where
       pub commercial-most : commercial s a ≤ 1536000000
       commercial-most = omega (arith, commercial-le s b a l, demand-most)
+
+      pub own-le : own s a ≤ 1536000000
+      unfolding own
+      own-le = cond-le (retails s a) _ _ _ commercial-most (omega (arith, made-le s ok a))
+
+      pub bought-le : bought s a ≤ 2560000000
+      unfolding bought
+      bought-le =
+          cond-le (retails s a) _ _ _ (omega (arith, own-le)) (omega (arith, contracted-le a, import-le s a, imported-le s ok a))
+
+      pub sold-le : sold s a ≤ 1536000000
+      unfolding sold
+      sold-le = cond-le (retails s a) _ _ _ (omega (arith, contracted-le a)) (omega (arith, own-le))

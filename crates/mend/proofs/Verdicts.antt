@@ -13,7 +13,7 @@ use Rattle.sheet.specs.Counting.{countVerdict, countingOf}
 use Rattle.sheet.specs.declared.Counts.{Counts}
 use Rattle.sheet.specs.declared.counting.Counting.{Counting}
 use Rattle.sheet.proofs.Counted.{Counted, rows-counted, rows-refused}
-use Rattle.mend.specs.Mend.{changes, roomGood, roomVerdict, mendVerdict, Mended}
+use Rattle.mend.specs.Mend.{changes, roomGood, mendRoom, mendVerdict, Mended}
 use Rattle.mend.specs.declared.Mending.{Mending}
 use Rattle.mend.specs.Steps.{Mendable, Copied, MendsCounted}
 
@@ -23,7 +23,7 @@ counted-mendable s c k = let f = k .few in (k .counts, omega arith, k .long)
 module _ (s : List ℕ) (copy report : ℕ) where
   pub rows-verdict : (c : Counts)
       → countingOf s ≡ Counting.Rows c
-      → mendVerdict s copy report ≡ roomVerdict s copy report
+      → mendVerdict s copy report ≡ mendRoom s copy report
   unfolding mendVerdict
   rows-verdict c e = rw (rows-counted s c e .0)
 

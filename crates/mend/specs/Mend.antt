@@ -81,11 +81,11 @@ reportAt s q =
 abbrev pub roomGood : List ℕ → (copy report : ℕ) → Bool
 roomGood s copy report = leb (length s) copy && leb (3 * changes s) report
 
-abbrev pub roomVerdict : List ℕ → (copy report : ℕ) → Verdict
-roomVerdict s copy report = refusedUnless (roomGood s copy report) noRoom 0
+abbrev pub mendRoom : List ℕ → (copy report : ℕ) → Verdict
+mendRoom s copy report = refusedUnless (roomGood s copy report) noRoom 0
 
 unfoldable pub mendVerdict : List ℕ → (copy report : ℕ) → Verdict
-mendVerdict s copy report = orElse (countVerdict s) (roomVerdict s copy report)
+mendVerdict s copy report = orElse (countVerdict s) (mendRoom s copy report)
 
 abbrev pub mending : Verdict → (changes : ℕ) → Mending
 mending Verdict.Fine n = Mending.Done n

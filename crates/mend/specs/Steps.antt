@@ -9,7 +9,7 @@ use Rattle.sums.specs.Sums.{pick}
 use Rattle.sums.specs.Lists.{Filled}
 use Rattle.sheet.specs.Reading.{trailerStart, sheetLength, countsOf}
 use Rattle.sheet.specs.declared.Counts.{Counts}
-use Rattle.mend.specs.Mend.{mendedAt, changes, reportAt, roomVerdict, Mended}
+use Rattle.mend.specs.Mend.{mendedAt, changes, reportAt, mendRoom, Mended}
 use Rattle.mend.specs.declared.Mending.{Mending}
 
 -- distances fit
@@ -30,8 +30,8 @@ noted report n place old new =
     cond (eqb old new) report (set (set (set report (3 * n) place) (3 * n + 1) old) (3 * n + 2) new)
 
 -- what is written where there is room
-abbrev pub Roomy : (s copy report : List ℕ) → Type 0
-Roomy s copy report = (length s ≤ length copy) × (3 * changes s ≤ length report)
+abbrev pub MendRoomy : (s copy report : List ℕ) → Type 0
+MendRoomy s copy report = (length s ≤ length copy) × (3 * changes s ≤ length report)
 
 abbrev pub Copied : (s copy report copy′ report′ : List ℕ) → Type 0
 Copied s copy report copy′ report′ =
@@ -39,4 +39,4 @@ Copied s copy report copy′ report′ =
 
 -- the promise of mending a sheet whose rows are counted
 abbrev pub MendsCounted : (s copy report : List ℕ) → Mending → (copy′ report′ : List ℕ) → Type 0
-MendsCounted s copy report = Mended s copy report (roomVerdict s (length copy) (length report))
+MendsCounted s copy report = Mended s copy report (mendRoom s (length copy) (length report))

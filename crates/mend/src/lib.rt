@@ -4,7 +4,7 @@ ghost use Prim.Native.Nat.{_+_, _-_, _*_, _/_, _%_, _^_, _≤_, _<_};
 ghost use lib.ListN.{length};
 ghost use Rattle.rows.specs.Bytes.{word};
 ghost use Rattle.mend.specs.Mend.{rowMended, mendedAt, changes, Mends};
-ghost use Rattle.mend.specs.Steps.{Small, Mendable, Roomy, noted, notes, Copied, MendsCounted};
+ghost use Rattle.mend.specs.Steps.{Small, Mendable, MendRoomy, noted, notes, Copied, MendsCounted};
 use refusals::Refusal;
 use rows::Words;
 use sheet::Counts;
@@ -137,7 +137,7 @@ fn note(report: &mut [u32], n: usize, place: usize, old: u8, new: u8) -> usize
 
 // Every byte of the mended sheet, and every change.
 fn write_mended(s: &[u8], c: Counts, copy: &mut [u8], report: &mut [u32])
-    requires { ⌜ Mendable (now s) c × Roomy (now s) (now copy) (now report) ⌝ }
+    requires { ⌜ Mendable (now s) c × MendRoomy (now s) (now copy) (now report) ⌝ }
     ensures { λ _. ⌜ Copied (now (s .entry)) (now (copy .entry)) (now (report .entry)) (now (copy .exit)) (now (report .exit)) ⌝ }
 {
     let mut n: usize = 0;

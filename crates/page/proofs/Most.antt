@@ -21,7 +21,7 @@ use Rattle.sheet.proofs.Accepted.{accepted-agent}
 use Rattle.hour.specs.Sheet.{Sheet, agents}
 use Rattle.hour.specs.Sound.{Sound}
 use Rattle.hour.specs.Balance.{lossShare, ownImport}
-use Rattle.hour.specs.Lines.{own, contracted, bought, sold, price, money, moneyOf, cellOf, figure}
+use Rattle.hour.specs.Lines.{own, contracted, bought, sold, bolsaPrice, money, moneyOf, cellOf, figure}
 use Rattle.hour.specs.Answer.{balanceVerdict, coverVerdict, summaryOf}
 use Rattle.hour.proofs.Verdicts.{Balanced, balanced}
 use Rattle.hour.proofs.Bounds.{imported-le, import-le, losses-le, price-le}
@@ -72,7 +72,7 @@ module _ (s : Sheet) (ok : Sound s) (b : Balanced s) (a : ℕ) (l : a < agents s
         bought = rw (figure-at 4 (omega arith)) (omega (arith, bought-le s ok b a l));
         sold = rw (figure-at 5 (omega arith)) (omega (arith, sold-le s ok b a l));
         owed = rw (getD-listTo (pos 0) (money s) (agents s) a l)
-            (money-small (sold s a) (bought s a) (price s) (omega (arith, sold-le s ok b a l)) (bought-le s ok b a l)
+            (money-small (sold s a) (bought s a) (bolsaPrice s) (omega (arith, sold-le s ok b a l)) (bought-le s ok b a l)
             (price-le s ok));
       }
 

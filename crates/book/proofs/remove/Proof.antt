@@ -51,7 +51,7 @@ use Rattle.refusals.proofs.Verdict.Laws as E′
 use Rattle.book.specs.declared.Book.{Book}
 use Rattle.book.specs.declared.Place.{Place}
 use Rattle.book.specs.declared.Told.{Told}
-use Rattle.book.specs.Book.{hours, blank, placeAt, hourVerdict, removed, Does, Kept}
+use Rattle.book.specs.Book.{hours, blank, placeAt, slotVerdict, removed, Does, Kept}
 use Rattle.book.specs.Told.{Carries, toldOf, slotOf}
 use Rattle.book.proofs.Laws.{fine-hour, kept-carries, slot-within, told-does}
 use Rattle.book.proofs.Cuts.{GoodPlace, GoodTotals, withPlaceAt, takes-place, puts-place, keeps-place, takes-totals, puts-totals, told-low, told-place, told-totals, told-verdict}
@@ -124,14 +124,14 @@ module _ {M : Type 1} (𝓤 : URA M) (H : Heap 𝓤) (A : Atoms 𝓤) (W : Given
       qed W (‵ ftrue ∷ []) ∵ owned ! u32 (Is u32) (uint-makes 𝓤 H A W w32) n _ (refl, fits) $ fjoin ! $ owned ! T.the-row (Is T.the-row) (LL.makes T.the-type T′.the-plain 𝓤 H A) (h .totals) _ gt $ fjoin ! $
       owned ! P.the-row (Is P.the-row) (LL.makes P.the-type P′.the-plain 𝓤 H A) p _ gp $ fjoin ! $ nothing ! $ says ! c $ frame ! $ done !
 
-  told-said : (p : Place) (r : Told) → ent 𝓤 (ensured 𝓤 H A removing′.ended (removing′.clauses 𝓤 H A at-mem run) tt (p, (h .totals, (n, tt))) tt r) (fact 𝓤 (r ≡ toldOf (hourVerdict n) p (h .totals) blank))
-  told-said p r = exE 𝓤 _ (λ ws. snd∗ 𝓤 (sem 𝓤 H A (lasts removing′.ended tt (p, (h .totals, (n, tt))) ws)) (fact 𝓤 (r ≡ toldOf (hourVerdict n) p (h .totals) blank)))
+  told-said : (p : Place) (r : Told) → ent 𝓤 (ensured 𝓤 H A removing′.ended (removing′.clauses 𝓤 H A at-mem run) tt (p, (h .totals, (n, tt))) tt r) (fact 𝓤 (r ≡ toldOf (slotVerdict n) p (h .totals) blank))
+  told-said p r = exE 𝓤 _ (λ ws. snd∗ 𝓤 (sem 𝓤 H A (lasts removing′.ended tt (p, (h .totals, (n, tt))) ws)) (fact 𝓤 (r ≡ toldOf (slotVerdict n) p (h .totals) blank)))
 
   -- the book that is left is the one promised
-  promised : (r : ℕ) (d : Told) → r ≡ slotOf n → d ≡ toldOf (hourVerdict n) (placeAt (h .places) r) (h .totals) blank → Does (hourVerdict n) (removed h n) (d .verdict) (after r d)
-  promised r d e e₂ = rw (e₂, e) (told-does h n blank (hourVerdict n) (fine-hour n))
+  promised : (r : ℕ) (d : Told) → r ≡ slotOf n → d ≡ toldOf (slotVerdict n) (placeAt (h .places) r) (h .totals) blank → Does (slotVerdict n) (removed h n) (d .verdict) (after r d)
+  promised r d e e₂ = rw (e₂, e) (told-does h n blank (slotVerdict n) (fine-hour n))
 
-  exits : (r : ℕ) (d : Told) → r ≡ slotOf n → d ≡ toldOf (hourVerdict n) (placeAt (h .places) r) (h .totals) blank → Is E.the-row (d .verdict) (E′.lowered (d .verdict) ∷ [])
+  exits : (r : ℕ) (d : Told) → r ≡ slotOf n → d ≡ toldOf (slotVerdict n) (placeAt (h .places) r) (h .totals) blank → Is E.the-row (d .verdict) (E′.lowered (d .verdict) ∷ [])
       → ent 𝓤 (⋆ 𝓤 H A (‵ (fobs γ (B.the-row .coded .code (after r d))) ∷ ‵ (fbor κ (Body (mem B.the-row) b o γ)) ∷ ‵ (flft κ q) ∷ [])) (Post (E′.lowered (d .verdict)))
   exits r d e e₂ good =
       qed W (‵ (fobs γ (B.the-row .coded .code (after r d))) ∷ ‵ (fbor κ (Body (mem B.the-row) b o γ)) ∷ ‵ (flft κ q) ∷ []) ∵
@@ -182,7 +182,7 @@ module _ {M : Type 1} (𝓤 : URA M) (H : Heap 𝓤) (A : Atoms 𝓤) (W : Given
         nothing ! $ use1 W (raw (Removing 𝓤 H A at-mem run .pre (to-removing (was r)))) (goes-removing (was r) gp gt (carries e)) $
         calls-at ! fm (Removing 𝓤 H A at-mem run) known-removing (to-removing (was r)) (and-then ! (load ! (from ! (stop !)) (look ! 11 refl)) (and-then ! (load ! (from ! (stop !)) (look ! 9 refl)) (and-then ! (load ! (from ! (stop !)) (look ! 23 refl)) (no-more !)))) (λ w.
         use1 W (later (some (λ (d : Told). (‵ ftrue ⊛ ‵ (D.the-row .own d (w ∷ []))) ⊛ raw (ensured 𝓤 H A removing′.ended (removing′.clauses 𝓤 H A at-mem run) tt (was r, (h .totals, (n, tt))) tt d)))) (id⊢ 𝓤 _) $ await ! tt $ pick ! (λ d.
-        split ! $ move ! (1 ∷ []) $ use1 W (raw (fact 𝓤 (d ≡ toldOf (hourVerdict n) (was r) (h .totals) blank))) (told-said (was r) d) $ heard ! (d ≡ toldOf (hourVerdict n) (was r) (h .totals) blank) (λ e₂. split ! $ drop ! $
+        split ! $ move ! (1 ∷ []) $ use1 W (raw (fact 𝓤 (d ≡ toldOf (slotVerdict n) (was r) (h .totals) blank))) (told-said (was r) d) $ heard ! (d ≡ toldOf (slotVerdict n) (was r) (h .totals) blank) (λ e₂. split ! $ drop ! $
         peeks ! D.the-row (Is D.the-row) (shows 𝓤 H A D.the-row) d (w ∷ []) (λ is₂.
         land ! (from ! (stop !)) (init ! 19 refl (LL.lawful D.the-type D′.the-laws 𝓤 H A W .typed d _ is₂ .0)) $ rewrite ! 19 (λ (u : Val). ‵ (fat fullShare D′.mir l₄ 0 u)) (told-low w d is₂) refl $ drop ! $
         assigns ! (bin ! (load ! (from ! (stop !)) (look ! 20 refl)) (lit ! tt) record { fits = stride e }) (from ! (stop !)) (store ! 16 refl (tt, record { fits = stride e })) $

@@ -47,7 +47,7 @@ use Rattle.refusals.proofs.Verdict as E
 use Rattle.refusals.proofs.Verdict.Laws as E′
 use Rattle.book.specs.declared.Book.{Book}
 use Rattle.book.specs.declared.Outcome.{Outcome}
-use Rattle.book.specs.Book.{hourVerdict, removed, Does, Kept}
+use Rattle.book.specs.Book.{slotVerdict, removed, Does, Kept}
 use Rattle.book.proofs.Book as B
 use Rattle.book.proofs.Book.Laws as B′
 use Rattle.book.proofs.Outcome as O
@@ -95,7 +95,7 @@ module _ {M : Type 1} (𝓤 : URA M) (H : Heap 𝓤) (A : Atoms 𝓤) (W : Given
       nothing ! $ owned ! u32 (Is u32) (uint-makes 𝓤 H A W w32) n _ (refl, fits) $ fjoin ! $ move ! (2 ∷ 0 ∷ []) $ fjoin ! $ nothing ! $ move ! (2 ∷ 0 ∷ []) $ join ! $ says ! kept $ frame ! $ done !
 
   abbrev promise : Verdict → Book → Type 0
-  promise r z = Does (hourVerdict n) (removed h n) r z
+  promise r z = Does (slotVerdict n) (removed h n) r z
 
   -- what is handed back, and its machine value
   abbrev back : Book → Verdict → Outcome

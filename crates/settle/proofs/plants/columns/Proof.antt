@@ -3,7 +3,7 @@ use native.Mathlib.Omega.{arith}
 use Prim.Native.Nat.{ℕ, _≤_, _-_, _+_}
 use mathlib.Core.List.{List}
 use mathlib.Core.Path.{_≡_, ap, _∙_, sym}
-use Rattle.rows.specs.Limits.{mostEnergy}
+use Rattle.rows.specs.Limits.{mostAvailable}
 use Rattle.rows.specs.Bytes.{wordsAt}
 use Rattle.rows.specs.Rows.{plantOf}
 use Rattle.rows.specs.declared.Plant.{Plant}
@@ -82,7 +82,7 @@ add-total c =
       arith,
       ap (λ (p : Plant). p .must) (is (c .before .before)),
       good (l .i) (omega arith) .fits,
-      sum-most (l .i) mostEnergy (λ j. plant (a .bytes .now) (a .c .agents + a .c .boundaries) j .must)
+      sum-most (l .i) mostAvailable (λ j. plant (a .bytes .now) (a .c .agents + a .c .boundaries) j .must)
           (λ j m. let f = good j (omega arith) .fits in omega arith),
       accepted-few _ _ (struct-known2-to-start c .pre .0),
     )
