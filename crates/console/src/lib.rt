@@ -1,4 +1,6 @@
 // What the desk program does. It only reads, calls and writes, so no contract can say more of it than that it is safe and ends.
+mod files;
+
 use input::Input;
 use libc::STDERR_FILENO;
 use libc::STDOUT_FILENO;
@@ -25,8 +27,7 @@ fn print_page(sheet: &[u8]) {
 
 // The page of the sheet on standard input.
 fn settle_input() {
-    // One row more than the longest sheet, so that a longer input is seen to be one.
-    let mut sheet = [0u8; 10288];
+    let mut sheet = [0u8; files::ROOM];
     let got = input::read_all(&mut sheet);
     match got {
         Input::Failed => os::fail(b"desk: the sheet cannot be read"),
@@ -41,11 +42,19 @@ fn say_usage() {
     );
 }
 
-// With no words the page of the sheet on standard input; with any, how the program is used.
+// What the first word asks for, with `count` words in all, the program's own name among them; else how the program is used.
+fn run_word(word: &[u8], count: usize) {
+    say_usage();
+}
+
+// With no words the page of the sheet on standard input; else what the first word asks for.
 pub fn run() {
-    if os::arg_count() < 2 {
+    let count = os::arg_count();
+    if count < 2 {
         settle_input();
     } else {
-        say_usage();
+        let mut word = [0u8; 16];
+        let n = os::arg(1, &mut word);
+        run_word(&word[..n], count);
     }
 }
