@@ -155,12 +155,21 @@ module _ (s : Sheet) (ok : Sound s) where
       none true false v h = refl
       none false u v h = refl
 
+-- ---- what equal rows of one buyer say: seller by seller, deal by deal, in their order
+module _ (s t : Sheet) (b : ℕ) (same : rowsOf s b ≡ rowsOf t b) where
+  deals-same : ownOf (s .deals) b ≡ ownOf (t .deals) b
+  deals-same = ap (λ (r : OwnRows). r .deals) same
+
+  sellers-same : ownTo (s .deals .buyers) b (s .sellers) (length (s .deals .buyers))
+      ≡ ownTo (t .deals .buyers) b (t .sellers) (length (t .deals .buyers))
+  sellers-same = ap (λ (r : OwnRows). r .sellers) same
+
 -- ---- the line of one agent, in two sheets
 module _ (s t : Sheet) (ok : Sound s) (good : Sound t) (e : Alike s t) where
   -- the same rows in the same order: the same amounts
   pub amounts-same : (b : ℕ) → rowsOf s b ≡ rowsOf t b
       → amountsOf (ownOf (s .deals) b) (at (demands s) b) ≡ amountsOf (ownOf (t .deals) b) (at (demands t) b)
-  amounts-same b same = rw (ap (λ (r : OwnRows). r .deals) same, demands-same s t e)
+  amounts-same b same = rw (deals-same s t b same, demands-same s t e)
 
   pub retailer-same : (b : ℕ) → retails s b ≡ true → rowsOf s b ≡ rowsOf t b → contracted s b ≡ contracted t b
   retailer-same b r same =
@@ -175,7 +184,7 @@ module _ (s t : Sheet) (ok : Sound s) (good : Sound t) (e : Alike s t) where
   sold-same g b same = go (decLt 0 (sales s g b)) (decLt 0 (sales t g b))
     where
       equal : rowsOf s b ≡ rowsOf t b → soldTo s ok g b ≡ soldTo t good g b
-      equal h = rw (ap (λ (r : OwnRows). r .deals) h, ap (λ (r : OwnRows). r .sellers) h, demands-same s t e)
+      equal h = rw (deals-same s t b h, sellers-same s t b h, demands-same s t e)
 
       go : Dec (0 < sales s g b) → Dec (0 < sales t g b) → soldTo s ok g b ≡ soldTo t good g b
       go (yes h) k = equal (same (inl h))
