@@ -103,11 +103,11 @@ pub fn march() -> Rows {
     rows
 }
 
-/// A settled sheet of any size, drawn from a seed. Every fourth agent is a generator; the boundaries and the contracts go round the agents. Retailers
-/// import 40,000 to 60,000 a row at factors 0 to 400, and the generators export all that and 2 in 100 more, in equal parts. Plant
-/// prices are 8 values and contract prices 4, so that most prices are shared by several rows; every eighth plant is inflexible, with
-/// no must-run. The availabilities are 1.5 times the demand in all, and the contracts of a retailer sum to about 1.5 times its demand, kinds 1, 2 and
-/// 3 in turn, so that the demand falls inside them and a price group is shared.
+/// A settled sheet of any size, drawn from a seed. Every fourth agent is a generator; the boundaries and the contracts go round the
+/// agents. Retailers import 40,000 to 60,000 a row at factors 0 to 400, and the generators export all that and 2 in 100 more, in equal
+/// parts. Plant prices are 8 values and contract prices 4, so that most prices are shared by several rows; every eighth plant is
+/// inflexible, with no must-run. The availabilities are 1.5 times the demand in all, and the contracts of a retailer sum to about 1.5
+/// times its demand, kinds 1, 2 and 3 in turn, so that the demand falls inside them and a price group is shared.
 pub fn market(seed: u64, [agents, boundaries, plants, contracts]: [usize; 4]) -> Rows {
     let mut random = Random(seed);
     let generators: Vec<u32> = (0..agents as u32).filter(|a| a % 4 == 0).collect();
@@ -178,7 +178,7 @@ pub fn largest_in_turn() -> Vec<Rows> {
     (1..=32).map(|seed| market(seed, LARGEST)).collect()
 }
 
-/// The same with no two prices of plants or of contracts that are meant to be equal: all are drawn from the whole range.
+/// The same with every price drawn from the whole range, so that hardly any two are equal.
 pub fn distinct_in_turn() -> Vec<Rows> {
     let mut random = Random(24);
     let mut sheets = largest_in_turn();
