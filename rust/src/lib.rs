@@ -15,13 +15,14 @@
 //! }
 //! ```
 //!
-//! [`plain`] and [`fast`] do not call the library: they are what the tests and the benchmark hold it against.
+//! [`plain`], [`statement`] and [`fast`] do not call the library: they are what the tests and the benchmark hold it against.
 
 mod answers;
 pub mod fast;
 pub mod plain;
 pub mod raw;
 pub mod sheets;
+pub mod statement;
 
 pub use answers::{Counts, Refusal, Summary};
 
@@ -85,14 +86,7 @@ pub fn settle(
 /// Checks an administrator's statement of a sheet's hour: a price and the four lists, in the shape in which [`settle`] leaves
 /// them. Every statement that could be right is accepted, and no other. Refusals 1 to 10, 13 and 11 as in settling the sheet,
 /// then 21 to 25 for the first of the five points that fails. Cells past those needed are not looked at.
-pub fn check(
-    sheet: &[u8],
-    price: u32,
-    figures: &[u32],
-    money: &[i64],
-    schedule: &[u32],
-    amounts: &[u32],
-) -> Result<(), Refusal> {
+pub fn check(sheet: &[u8], price: u32, figures: &[u32], money: &[i64], schedule: &[u32], amounts: &[u32]) -> Result<(), Refusal> {
     let mut answer = [0u32; 2];
     // As in `settle`.
     unsafe {

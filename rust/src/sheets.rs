@@ -103,13 +103,13 @@ pub fn march() -> Rows {
     rows
 }
 
-/// A settled sheet of any size. Every fourth agent is a generator; the boundaries and the contracts go round the agents. Retailers
-/// import 40,000 to 60,000 a row at factors 0 to 400, and the generators export all that and 2 in 100 more, in equal parts. Plant
-/// prices are 8 values and contract prices 4, so that most prices are shared by several rows; every eighth plant is inflexible, with
-/// no must-run. The availabilities are 1.5 times the demand in all, and the contracts of a retailer sum to about 1.5 times its demand, kinds 1, 2 and
-/// 3 in turn, so that the demand falls inside them and a price group is shared.
-pub fn market(agents: usize, boundaries: usize, plants: usize, contracts: usize) -> Rows {
-    let mut random = Random(1995);
+/// A settled sheet of any size, drawn from a seed. Every fourth agent is a generator; the boundaries and the contracts go round the
+/// agents. Retailers import 40,000 to 60,000 a row at factors 0 to 400, and the generators export all that and 2 in 100 more, in equal
+/// parts. Plant prices are 8 values and contract prices 4, so that most prices are shared by several rows; every eighth plant is
+/// inflexible, with no must-run. The availabilities are 1.5 times the demand in all, and the contracts of a retailer sum to about 1.5
+/// times its demand, kinds 1, 2 and 3 in turn, so that the demand falls inside them and a price group is shared.
+pub fn market(seed: u64, [agents, boundaries, plants, contracts]: [usize; 4]) -> Rows {
+    let mut random = Random(seed);
     let generators: Vec<u32> = (0..agents as u32).filter(|a| a % 4 == 0).collect();
     let retailers: Vec<u32> = (0..agents as u32).filter(|a| a % 4 != 0).collect();
     let kinds = (0..agents).map(|a| if a % 4 == 0 { 2 } else { 1 }).collect();
@@ -155,26 +155,81 @@ pub fn market(agents: usize, boundaries: usize, plants: usize, contracts: usize)
     rows
 }
 
+const MIDDLING: [usize; 4] = [20, 60, 20, 60];
+const LARGEST: [usize; 4] = [64, 256, 64, 256];
+
 /// 20 agents, 60 boundaries, 20 plants and 60 contracts.
 pub fn middling() -> Rows {
-    market(20, 60, 20, 60)
+    market(1995, MIDDLING)
 }
 
 /// 64 agents, 256 boundaries, 64 plants and 256 contracts.
 pub fn largest() -> Rows {
-    market(64, 256, 64, 256)
+    market(1995, LARGEST)
+}
+
+/// 32 middling sheets that differ in every number but the counts.
+pub fn middling_in_turn() -> Vec<Rows> {
+    (1..=32).map(|seed| market(seed, MIDDLING)).collect()
+}
+
+/// 32 of the largest sheets that differ in every number but the counts.
+pub fn largest_in_turn() -> Vec<Rows> {
+    (1..=32).map(|seed| market(seed, LARGEST)).collect()
+}
+
+/// The same with every price drawn from the whole range, so that hardly any two are equal.
+pub fn distinct_in_turn() -> Vec<Rows> {
+    let mut random = Random(24);
+    let mut sheets = largest_in_turn();
+    for rows in &mut sheets {
+        let prices = rows.plants.iter_mut().map(|p| &mut p[3]).chain(rows.contracts.iter_mut().map(|c| &mut c[3]));
+        prices.for_each(|price| *price = random.range(0, 1_000_000));
+    }
+    sheets
+}
+
+/// What the first retailer's meters say that it takes.
+fn first_import(rows: &Rows) -> u32 {
+    rows.boundaries.iter().filter(|b| b[0] == 1).map(|b| b[2]).sum()
 }
 
 /// The largest sheet with one buyer for all 256 contracts, all of kind 3 at two prices: 128 are in full and 128 share.
 pub fn one_buyer() -> Rows {
     let mut rows = largest();
-    let demand = {
-        let own = rows.boundaries.iter().filter(|b| b[0] == 1);
-        own.map(|b| b[2]).sum::<u32>()
-    };
-    let each = demand / 192;
+    let each = first_import(&rows) / 192;
     for (i, row) in rows.contracts.iter_mut().enumerate() {
         *row = [row[0], 1, 3, 6_000 + 500 * (i as u32 % 2), each - i as u32 % 7];
     }
+    rows
+}
+
+/// The largest sheet with one buyer for all 256 contracts, all of kind 3 at one price, about twice the demand: all 256 share.
+pub fn one_group() -> Rows {
+    let mut random = Random(256);
+    let mut rows = largest();
+    let each = first_import(&rows) / 128;
+    for row in &mut rows.contracts {
+        *row = [row[0], 1, 3, 6_000, random.range(each / 2, each * 3 / 2)];
+    }
+    rows
+}
+
+/// The largest sheet with contracts a quarter as large, so that every one is assigned in full.
+pub fn all_fit() -> Rows {
+    let mut rows = largest();
+    rows.contracts.iter_mut().for_each(|c| c[4] /= 4);
+    rows
+}
+
+/// 64 agents, 256 boundaries and 64 plants.
+pub fn no_contracts() -> Rows {
+    market(1995, [64, 256, 64, 0])
+}
+
+/// The largest sheet with too little available: refused with 10.
+pub fn uncovered() -> Rows {
+    let mut rows = largest();
+    rows.plants.iter_mut().for_each(|p| p[4] /= 2);
     rows
 }

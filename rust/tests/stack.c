@@ -1,12 +1,14 @@
-/* How deep a settlement reaches into the stack: each sheet of standard input (its length in four bytes, low byte first, then its
-   bytes) is settled on a stack of its own, painted beforehand; the deepest byte that lost its paint is printed. */
+/* How deep settling, printing and checking reach into the stack: each sheet of standard input (its length in four bytes, low byte
+   first, then its bytes) is settled, printed, and our own settlement of it checked, each on a stack painted beforehand; the deepest
+   byte that lost its paint is printed for each of the three. Link it so that all symbols are bound before the start (-z now), or the
+   dynamic linker's own stack is measured too. */
 #include "naomhral.h"
 #include <stdio.h>
 #include <stdlib.h>
 #include <string.h>
 #include <ucontext.h>
 
-enum { ROOM = 1 << 16, PAINT = 0xa5 };
+enum { ROOM = 1 << 16, PAINT = 0xa5, CALLS = 3 };
 
 static uint8_t stack[ROOM];
 static uint8_t sheet[1 << 16];
@@ -15,12 +17,21 @@ static uint32_t figures[NAOMHRAL_FIGURES_MOST];
 static int64_t money[NAOMHRAL_MONEY_MOST];
 static uint32_t schedule[NAOMHRAL_SCHEDULE_MOST];
 static uint32_t amounts[NAOMHRAL_AMOUNTS_MOST];
-static uint32_t summary[5];
+static uint32_t summary[NAOMHRAL_SUMMARY];
+static uint8_t text[NAOMHRAL_PAGE_MOST];
+static uint32_t answer[NAOMHRAL_PAGE_ANSWER];
 static ucontext_t here, there;
 
 static void settle(void) {
     naomhral_settle(sheet, length, figures, NAOMHRAL_FIGURES_MOST, money, NAOMHRAL_MONEY_MOST, schedule, NAOMHRAL_SCHEDULE_MOST,
-        amounts, NAOMHRAL_AMOUNTS_MOST, summary, 5);
+        amounts, NAOMHRAL_AMOUNTS_MOST, summary, NAOMHRAL_SUMMARY);
+}
+
+static void page(void) { naomhral_page(sheet, length, text, NAOMHRAL_PAGE_MOST, answer, NAOMHRAL_PAGE_ANSWER); }
+
+static void check(void) {
+    naomhral_check(sheet, length, summary[2], figures, NAOMHRAL_FIGURES_MOST, money, NAOMHRAL_MONEY_MOST, schedule,
+        NAOMHRAL_SCHEDULE_MOST, amounts, NAOMHRAL_AMOUNTS_MOST, answer, NAOMHRAL_CHECK_ANSWER);
 }
 
 static void nothing(void) {}
@@ -40,16 +51,23 @@ static size_t depth(void (*run)(void)) {
 }
 
 int main(void) {
+    static void (*const calls[CALLS])(void) = {settle, page, check};
     uint8_t head[4];
-    size_t deepest = 0, own = depth(nothing), sheets = 0;
+    size_t deepest[CALLS] = {0, 0, 0}, own = depth(nothing), sheets = 0;
     while (fread(head, 1, 4, stdin) == 4) {
         length = head[0] | (size_t)head[1] << 8 | (size_t)head[2] << 16 | (size_t)head[3] << 24;
         if (length > sizeof sheet || fread(sheet, 1, length, stdin) != length) return 2;
-        size_t now = depth(settle);
-        if (now > deepest) deepest = now;
+        for (size_t k = 0; k < CALLS; k++) {
+            size_t now = depth(calls[k]);
+            if (now > deepest[k]) deepest[k] = now;
+        }
+        /* checking comes right behind the settlement whose lists it takes: a sheet that settles is accepted */
+        if (summary[0] == 0 && answer[0] != 0) return 2;
         sheets++;
     }
     if (ferror(stdin) || !feof(stdin)) return 2;
-    printf("%zu %zu\n", sheets, deepest - own);
+    printf("%zu", sheets);
+    for (size_t k = 0; k < CALLS; k++) printf(" %zu", deepest[k] - own);
+    printf("\n");
     return 0;
 }

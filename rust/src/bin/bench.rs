@@ -1,14 +1,17 @@
-//! Nanoseconds an hour: the proved library and the fast Rust settlement side by side, and the plain one for scale.
+//! Nanoseconds an hour: the proved library and the fast Rust settlement side by side, and the plain one for scale. Then what checking
+//! our own statement of an hour takes, beside settling it.
 //!
 //! `cargo run --release --bin bench`, with a number of rounds after `--` if 301 are too many or too few. In each round every sheet is
 //! settled in one batch by each, one after another and in turning order, so that a slow moment of the machine meets all alike; the
-//! medians of the batches are printed. The lent lists are the largest sheet's, reused from call to call and not cleared.
+//! medians of the batches are printed. The lent lists are the largest sheet's, reused from call to call and not cleared. One sheet
+//! again and again teaches the processor its order, so some rows have 32 different sheets in turn.
 use naomhral::{fast, plain, sheets, Refusal, Summary};
 use std::hint::black_box;
 use std::time::Instant;
 
 type Settle = fn(&[u8], &mut [u32], &mut [i64], &mut [u32], &mut [u32]) -> Result<Summary, Refusal>;
 
+#[derive(Clone)]
 struct Lists {
     figures: [u32; naomhral::FIGURES_MOST],
     money: [i64; naomhral::AGENTS_MOST],
@@ -24,35 +27,69 @@ impl Lists {
     fn settle(&mut self, settle: Settle, sheet: &[u8]) -> Result<Summary, Refusal> {
         settle(sheet, &mut self.figures, &mut self.money, &mut self.schedule, &mut self.amounts)
     }
+
+    fn check(&self, price: u32, sheet: &[u8]) -> Result<(), Refusal> {
+        naomhral::check(sheet, price, &self.figures, &self.money, &self.schedule, &self.amounts)
+    }
 }
 
 struct Case {
     name: &'static str,
-    sheet: Vec<u8>,
+    /// taken in turn
+    sheets: Vec<Vec<u8>>,
     /// calls in a batch of the library or of fast; plain has a tenth
     calls: usize,
 }
 
-fn cases() -> Vec<Case> {
-    let case = |name, rows: sheets::Rows, calls| Case { name, sheet: rows.bytes(), calls };
+impl Case {
+    fn one(name: &'static str, rows: sheets::Rows, calls: usize) -> Case {
+        Case::bytes(name, rows.bytes(), calls)
+    }
+
+    fn bytes(name: &'static str, sheet: Vec<u8>, calls: usize) -> Case {
+        Case { name, sheets: vec![sheet], calls }
+    }
+
+    fn turns(name: &'static str, sheets: Vec<sheets::Rows>, calls: usize) -> Case {
+        Case { name, sheets: sheets.iter().map(|rows| rows.bytes()).collect(), calls }
+    }
+
+    /// Nanoseconds a call in one batch; each call has the place of its sheet and the sheet.
+    fn time(&self, calls: usize, mut call: impl FnMut(usize, &[u8])) -> f64 {
+        let start = Instant::now();
+        for (i, sheet) in self.sheets.iter().enumerate().cycle().take(calls) {
+            call(i, black_box(sheet));
+        }
+        start.elapsed().as_nanos() as f64 / calls as f64
+    }
+}
+
+fn settled() -> Vec<Case> {
     vec![
-        case("worked hour (4, 4, 3, 4)", sheets::worked(), 1_000),
-        case("middling (20, 60, 20, 60)", sheets::middling(), 200),
-        case("largest (64, 256, 64, 256)", sheets::largest(), 50),
-        case("largest, one buyer", sheets::one_buyer(), 50),
-        case("refused: march (4, 4, 3, 4)", sheets::march(), 1_000),
+        Case::one("empty hour (0, 0, 0, 0)", sheets::Rows::default(), 2_000),
+        Case::one("worked hour (4, 4, 3, 4)", sheets::worked(), 1_000),
+        Case::one("middling (20, 60, 20, 60)", sheets::middling(), 200),
+        Case::turns("middling, 32 sheets in turn", sheets::middling_in_turn(), 192),
+        Case::one("largest (64, 256, 64, 256)", sheets::largest(), 50),
+        Case::turns("largest, 32 sheets in turn", sheets::largest_in_turn(), 64),
+        Case::turns("largest, distinct prices, 32 in turn", sheets::distinct_in_turn(), 64),
+        Case::one("largest, one buyer, two groups", sheets::one_buyer(), 50),
+        Case::one("largest, one buyer, one group shares", sheets::one_group(), 50),
+        Case::one("largest, all contracts fit", sheets::all_fit(), 50),
+        Case::one("largest, no contracts", sheets::no_contracts(), 100),
     ]
 }
 
-/// Nanoseconds a call in one batch.
-fn batch(settle: Settle, sheet: &[u8], calls: usize, lists: &mut Lists) -> f64 {
-    let start = Instant::now();
-    for _ in 0..calls {
-        let answer = lists.settle(settle, black_box(sheet));
-        let _ = black_box(answer);
-        black_box(&mut *lists);
-    }
-    start.elapsed().as_nanos() as f64 / calls as f64
+fn refused() -> Vec<Case> {
+    let mut displaced = sheets::largest().bytes();
+    let trailer = displaced.len() - 32;
+    displaced[trailer] ^= 16;
+    vec![
+        Case::bytes("refused 1: 31 bytes", vec![0; 31], 5_000),
+        Case::bytes("refused 2: largest, a distance", displaced, 5_000),
+        Case::one("refused 6: march (4, 4, 3, 4)", sheets::march(), 1_000),
+        Case::one("refused 10: largest", sheets::uncovered(), 100),
+    ]
 }
 
 fn median(mut times: Vec<f64>) -> f64 {
@@ -60,36 +97,71 @@ fn median(mut times: Vec<f64>) -> f64 {
     times[times.len() / 2]
 }
 
-fn main() {
-    let rounds: usize = match std::env::args().nth(1) {
-        Some(word) => word.parse().expect("the number of rounds"),
-        None => 301,
-    };
+/// The library's, fast's and plain's nanoseconds, one row a case.
+fn settling(rounds: usize, cases: &[Case]) {
     let engines: [Settle; 3] = [naomhral::settle, fast::settle, plain::settle];
-    let cases = cases();
     let mut lists = Lists::new();
     let mut times = vec![[const { Vec::new() }; 3]; cases.len()];
-    for case in &cases {
-        let answers = engines.map(|settle| lists.settle(settle, &case.sheet));
-        assert!(answers[0] == answers[2] && answers[1] == answers[2], "{}: the answers differ", case.name);
+    for case in cases {
+        for sheet in &case.sheets {
+            let answers = engines.map(|settle| lists.settle(settle, sheet));
+            assert!(answers[0] == answers[2] && answers[1] == answers[2], "{}: the answers differ", case.name);
+        }
     }
     for round in 0..rounds {
         for (case, times) in cases.iter().zip(&mut times) {
             for turn in 0..3 {
                 let k = (round + turn) % 3;
                 let calls = if k == 2 { case.calls.div_ceil(10) } else { case.calls };
-                times[k].push(batch(engines[k], &case.sheet, calls, &mut lists));
+                times[k].push(case.time(calls, |_, sheet| {
+                    let _ = black_box(lists.settle(engines[k], sheet));
+                    black_box(&mut lists);
+                }));
             }
         }
     }
-
-    println!("Nanoseconds an hour, medians of {rounds} batches; lists reused, not cleared.");
-    println!("Rows in brackets: agents, boundaries, plants, contracts.");
-    println!();
     println!("| sheet | library | fast | library / fast | plain |");
     println!("|---|---:|---:|---:|---:|");
     for (case, times) in cases.iter().zip(times) {
         let [library, fast, plain] = times.map(median);
         println!("| {} | {library:.0} | {fast:.0} | {:.2} | {plain:.0} |", case.name, library / fast);
     }
+}
+
+/// Checking our own statement of each sheet beside settling it, one row a case.
+fn checking(rounds: usize, cases: &[Case]) {
+    println!("| sheet | check | settle | check / settle |");
+    println!("|---|---:|---:|---:|");
+    for case in cases {
+        let mut lists = Lists::new();
+        let settle = |sheet: &Vec<u8>| (lists.settle(naomhral::settle, sheet).expect("settled").price, lists.clone());
+        let ours: Vec<(u32, Lists)> = case.sheets.iter().map(settle).collect();
+        let accepted = ours.iter().zip(&case.sheets).all(|((price, lists), sheet)| lists.check(*price, sheet).is_ok());
+        assert!(accepted, "{}: a statement of our own is refused", case.name);
+        let mut times = [const { Vec::new() }; 2];
+        for _ in 0..rounds {
+            times[0].push(case.time(case.calls, |i, sheet| {
+                let _ = black_box(ours[i].1.check(ours[i].0, sheet));
+            }));
+            times[1].push(case.time(case.calls, |_, sheet| {
+                let _ = black_box(lists.settle(naomhral::settle, sheet));
+                black_box(&mut lists);
+            }));
+        }
+        let [check, settle] = times.map(median);
+        println!("| {} | {check:.0} | {settle:.0} | {:.2} |", case.name, check / settle);
+    }
+}
+
+fn main() {
+    let rounds: usize = match std::env::args().nth(1) {
+        Some(word) => word.parse().expect("the number of rounds"),
+        None => 301,
+    };
+    println!("Nanoseconds a call, medians of {rounds} batches; lists reused, not cleared.");
+    println!("Rows in brackets: agents, boundaries, plants, contracts.");
+    println!();
+    settling(rounds, &settled().into_iter().chain(refused()).collect::<Vec<Case>>());
+    println!();
+    checking(rounds, &settled());
 }
