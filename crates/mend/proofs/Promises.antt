@@ -100,7 +100,9 @@ pub record Passes (m : List ℕ) : Type 0 where
   pub refusal-1 : lengthGood (length m) ≡ true
   pub refusal-2 : layoutGood m ≡ true
   pub agents : (i : ℕ) → i < countsOf m .agents → agentBlank (wordsAt m i) ≡ true
-  pub boundaries : (i : ℕ) → i < countsOf m .boundaries → boundaryBlank (wordsAt m (boundaryStart (countsOf m) + i)) ≡ true
+  pub boundaries : (i : ℕ)
+      → i < countsOf m .boundaries
+      → boundaryBlank (wordsAt m (boundaryStart (countsOf m) + i)) ≡ true
 
 pub mended-passes : (s copy report copy′ report′ : List ℕ) (n : ℕ)
     → Bytes s

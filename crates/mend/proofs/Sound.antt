@@ -132,7 +132,9 @@ module _ (s : List ℕ) (k : Counted s (countsOf s)) (by : Bytes s) where
   pub agent-blanks : (i : ℕ) → i < c .agents → agentBlank (wordsAt (mendedSheet s) i) ≡ true
   agent-blanks i h = rw (mended-row i (omega arith), row-agent c i (wordsAt s i) h)
 
-  pub boundary-blanks : (i : ℕ) → i < c .boundaries → boundaryBlank (wordsAt (mendedSheet s) (boundaryStart c + i)) ≡ true
+  pub boundary-blanks : (i : ℕ)
+      → i < c .boundaries
+      → boundaryBlank (wordsAt (mendedSheet s) (boundaryStart c + i)) ≡ true
   boundary-blanks i h =
       rw (
         mended-row (boundaryStart c + i) (omega arith),
@@ -207,7 +209,8 @@ module _ (s : List ℕ) (w : Whole s (countsOf s)) where
           row-agent k r _ l ∙ row-same (wordsAt s r) _ _ _ _ refl (b .second) (b .third) (b .fourth)
       go (boundary a l) =
           let e : boundaryStart k + (r - boundaryStart k) ≡ r = omega arith in
-          let b : boundaryBlank (wordsAt s r) ≡ true = rw e at (w .boundaryBlanks (r - boundaryStart k) (omega arith)) in
+          let b : boundaryBlank (wordsAt s r)
+          ≡ true = rw e at (w .boundaryBlanks (r - boundaryStart k) (omega arith)) in
           row-boundary k r _ a l ∙ row-same (wordsAt s r) _ _ _ _ refl (boundary-blank (wordsAt s r) b) refl refl
       go (kept b l) = row-kept k r _ b l
       go (head e) =

@@ -129,11 +129,15 @@ refused-short r =
     let place = decimal (r .place) (10 ∷ []) in
     omega (arith, spell-most 19 (r .number) (32 ∷ place), spell-most 19 (r .place) (10 ∷ []))
 
-pub refused-page : (r : Summary) (kinds figures : List ℕ) (money : List ℤ) → (r .number ≡ 0 → ⊥) → length (pageOf r kinds figures money) ≤ 50
+pub refused-page : (r : Summary) (kinds figures : List ℕ) (money : List ℤ)
+    → (r .number ≡ 0 → ⊥)
+    → length (pageOf r kinds figures money) ≤ 50
 unfolding pageOf
 refused-page r kinds figures money h = rw (ne-eqb (r .number) 0 h) (refused-short r)
 
-pub hour-page : (r : Summary) (kinds figures : List ℕ) (money : List ℤ) → r .number ≡ 0 → ShortPage r kinds figures money
+pub hour-page : (r : Summary) (kinds figures : List ℕ) (money : List ℤ)
+    → r .number ≡ 0
+    → ShortPage r kinds figures money
     → length (pageOf r kinds figures money) ≤ 35 + 78 * length kinds
 unfolding pageOf
 hour-page r kinds figures money e s = rw (eq-eqb (r .number) 0 e) (hour-short r kinds figures money s)

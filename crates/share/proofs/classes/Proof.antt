@@ -9,7 +9,8 @@ use Rattle.share.proofs.classes.Statement.{statement}
 use Rattle.share.proofs.classes.Tie as tie
 
 abbrev Inv-loop : tie.InvT-loop
-Inv-loop amount weights t out low s counts₀ i₀ counts i = (i ≤ length weights) × (length counts ≡ length counts₀) × Classed (lackOf amount weights) i low (2 ^ s) counts
+Inv-loop amount weights t out low s counts₀ i₀ counts i =
+    (i ≤ length weights) × (length counts ≡ length counts₀) × Classed (lackOf amount weights) i low (2 ^ s) counts
 
 abbrev μ-loop : tie.MeasureT-loop
 μ-loop amount weights t out low s counts₀ i₀ counts i = length weights - i
@@ -45,20 +46,30 @@ loop-holds c = (omega arith, refl, classed-none _ _ _ _ (slice-known-to-start c 
 lack-requires : tie.Need-lack-requires Inv-loop μ-loop
 lack-requires c κs =
     let a = shared-slice-known4-to-start c .args in
-    lack-asked (a .amount) (a .weights .now) (a .t) (a .out .now) (shared-slice-known4-to-start c .pre .0) (shared-slice-known4-to-loop c .loop .i) (omega arith) _ refl
+    lack-asked (a .amount) (a .weights .now) (a .t) (a .out .now) (shared-slice-known4-to-start c .pre .0)
+    (shared-slice-known4-to-loop c .loop .i) (omega arith) _ refl
 
 note-requires : tie.Need-note-requires Inv-loop μ-loop
 note-requires c κs =
     let a = note-arg-to-start c .args in
-    let l = note-arg-to-loop c .loop in
-    (note-arg-to-start c .pre .1, l .inv .2 .long, classed-few (lackOf (a .amount) (a .weights .now)) (a .low) (2 ^ a .s) (l .i) (l .counts) (omega (arith, note-arg-to-start c .pre .0 .sharing .few)) (l .inv .2))
+    let l = note-arg-to-loop c .loop in (
+      note-arg-to-start c .pre .1,
+      l .inv .2 .long,
+      classed-few (lackOf (a .amount) (a .weights .now)) (a .low) (2 ^ a .s) (l .i) (l .counts)
+          (omega (arith, note-arg-to-start c .pre .0 .sharing .few)) (l .inv .2),
+    )
 
 loop-again : tie.Need-loop-again Inv-loop μ-loop
 loop-again c =
     let a = slice-known2-to-start c .args in
     let l = slice-known2-to-loop c .loop in
-    let i = l .i in
-    (omega arith, omega (arith, (c .before .before) .note .ensures .long), classed-more (lackOf (a .amount) (a .weights .now)) (a .low) (2 ^ a .s) i _ _ _ (lack-is (a .amount) (a .weights .now) (a .t) (a .out .now) (slice-known2-to-start c .pre .0) i (omega arith) _ (slice-known2-to-lack c .lack .ensures .0)) ((c .before .before) .note .ensures) (l .inv .2))
+    let i = l .i in (
+      omega arith,
+      omega (arith, (c .before .before) .note .ensures .long),
+      classed-more (lackOf (a .amount) (a .weights .now)) (a .low) (2 ^ a .s) i _ _ _
+          (lack-is (a .amount) (a .weights .now) (a .t) (a .out .now) (slice-known2-to-start c .pre .0) i (omega arith)
+          _ (slice-known2-to-lack c .lack .ensures .0)) ((c .before .before) .note .ensures) (l .inv .2),
+    )
 
 returns : tie.Need-returns Inv-loop μ-loop
 returns c =

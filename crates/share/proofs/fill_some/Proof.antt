@@ -34,28 +34,41 @@ slice-known3-to-start c = spread-arg-to-start (c .before .before .before)
 
 floors-requires : tie.Need-floors-requires
 unfolding zeros
-floors-requires c κs = (counts-to-start c .pre .0, counts-to-start c .pre .1, omega arith, record { none = λ k h. at-zeros 64 k; long = refl })
+floors-requires c κs = (
+  counts-to-start c .pre .0,
+  counts-to-start c .pre .1,
+  omega arith,
+  record { none = λ k h. at-zeros 64 k; long = refl },
+)
 
 returns : tie.Need-returns
 returns c =
     let a = then1-to-start c .args in
     let f = then1-to-floors c .floors .ensures .0 in
-    no-left (a .amount) (a .weights .now) (a .out .now) _ (total-pos _ _ (then1-to-start c .pre .0)) (omega (arith, f .left)) (f .result)
+    no-left (a .amount) (a .weights .now) (a .out .now) _ (total-pos _ _ (then1-to-start c .pre .0))
+    (omega (arith, f .left)) (f .result)
 
 spread-requires : tie.Need-spread-requires
 spread-requires c κs =
     let a = spread-arg-to-start c .args in
     let f = spread-arg-to-floors c .floors .ensures in
     let n = (c .before) .choose .ensures .of _ _ (f .1) in (
-      record { sharing = spread-arg-to-start c .pre .0; room = omega (arith, f .0 .result .long, spread-arg-to-start c .pre .1); floors = f .0 .result .done },
+      record {
+        sharing = spread-arg-to-start c .pre .0;
+        room = omega (arith, f .0 .result .long, spread-arg-to-start c .pre .1);
+        floors = f .0 .result .done;
+      },
       omega (arith, n .small, spread-arg-to-start c .pre .0 .small),
-      n .still _ (bracket-start (a .amount) (a .weights .now) (a .t) _ (leftOver (a .amount) (a .weights .now)) (f .0 .left) (spread-arg-to-start c .pre .0)),
+      n .still _ (bracket-start (a .amount) (a .weights .now) (a .t) _ (leftOver (a .amount) (a .weights .now))
+          (f .0 .left) (spread-arg-to-start c .pre .0)),
     )
 
 returns-2 : tie.Need-returns-2
 returns-2 c =
     let a = slice-known3-to-start c .args in
-    filled-then 0 (a .out .now) _ _ (length (a .weights .now)) (floorOf (a .amount) (a .weights .now)) (shareOf (a .amount) (a .weights .now)) (slice-known3-to-floors c .floors .ensures .0 .result) ((c .before .before) .spread .ensures)
+    filled-then 0 (a .out .now) _ _ (length (a .weights .now)) (floorOf (a .amount) (a .weights .now))
+    (shareOf (a .amount) (a .weights .now)) (slice-known3-to-floors c .floors .ensures .0 .result)
+    ((c .before .before) .spread .ensures)
 
 pub fill-some-spec : {M : Type 1} → statement M
 fill-some-spec =

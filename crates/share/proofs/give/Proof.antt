@@ -19,7 +19,8 @@ use Rattle.share.proofs.give.Tie as tie
 
 abbrev Inv-loop : tie.InvT-loop
 Inv-loop amount weights t x left out₀ rest₀ i₀ out rest i =
-    (i ≤ length weights) × (length out ≡ length out₀) × (rest ≡ left - keyed (lackOf amount weights) one i x) × Filled 0 out₀ out i (shareOf amount weights)
+    (i ≤ length weights) × (length out ≡ length out₀) × (rest ≡ left - keyed (lackOf amount weights) one i x)
+    × Filled 0 out₀ out i (shareOf amount weights)
 
 abbrev μ-loop : tie.MeasureT-loop
 μ-loop amount weights t x left out₀ rest₀ i₀ out rest i = length weights - i
@@ -59,16 +60,22 @@ lack-requires : tie.Need-lack-requires Inv-loop μ-loop
 lack-requires c κs =
     let a = shared-slice-known2-to-start c .args in
     let l = shared-slice-known2-to-loop c .loop in
-    lack-asked (a .amount) (a .weights .now) (a .t) (a .out .now) (shared-slice-known2-to-start c .pre .0) (l .i) (omega arith) _ (l .inv .3 .kept (l .i) (le-refl (l .i)))
+    lack-asked (a .amount) (a .weights .now) (a .t) (a .out .now) (shared-slice-known2-to-start c .pre .0) (l .i)
+    (omega arith) _ (l .inv .3 .kept (l .i) (le-refl (l .i)))
 
 -- the lack is the definition's
-lacks : (c : tie.After-lack Inv-loop μ-loop) → c .lack .result ≡ lackOf (lack-to-start c .args .amount) (lack-to-start c .args .weights .now) (lack-to-loop c .loop .i)
+lacks : (c : tie.After-lack Inv-loop μ-loop)
+    → c .lack .result ≡ lackOf (lack-to-start c .args .amount) (lack-to-start c .args .weights .now)
+    (lack-to-loop c .loop .i)
 lacks c =
     let a = lack-to-start c .args in
-    lack-is (a .amount) (a .weights .now) (a .t) (a .out .now) (lack-to-start c .pre .0) (lack-to-loop c .loop .i) (omega arith) _ (c .lack .ensures .0)
+    lack-is (a .amount) (a .weights .now) (a .t) (a .out .now) (lack-to-start c .pre .0) (lack-to-loop c .loop .i)
+    (omega arith) _ (c .lack .ensures .0)
 
 -- the floor and the unit make the share
-shares : (c : tie.After-unit Inv-loop μ-loop) → at (unit-to-loop c .loop .out) (unit-to-loop c .loop .i) + c .unit .result ≡ shareOf (unit-to-start c .args .amount) (unit-to-start c .args .weights .now) (unit-to-loop c .loop .i)
+shares : (c : tie.After-unit Inv-loop μ-loop)
+    → at (unit-to-loop c .loop .out) (unit-to-loop c .loop .i) + c .unit .result
+    ≡ shareOf (unit-to-start c .args .amount) (unit-to-start c .args .weights .now) (unit-to-loop c .loop .i)
 shares c =
     let a = unit-to-start c .args in
     let l = unit-to-loop c .loop in
@@ -79,7 +86,8 @@ shares c =
       h .floors (l .i) (omega arith),
       c .unit .ensures,
       ap (λ (z : ℕ). taken z (a .x) 1 (l .rest)) (lacks (c .before)),
-      share-taken (a .amount) (a .weights .now) (total-pos (a .weights .now) (a .t) (h .sharing)) (a .x) (a .left) (unit-to-start c .pre .1) (l .i) (l .rest) (omega arith) (l .inv .2),
+      share-taken (a .amount) (a .weights .now) (total-pos (a .weights .now) (a .t) (h .sharing)) (a .x) (a .left)
+          (unit-to-start c .pre .1) (l .i) (l .rest) (omega arith) (l .inv .2),
     )
 
 add-out : tie.Need-add-out Inv-loop μ-loop
@@ -93,7 +101,11 @@ loop-again c =
     let l = less-to-loop c .loop in (
       omega arith,
       search needs,
-      omega (arith, keyed-step (lackOf (a .amount) (a .weights .now)) one (l .i) (a .x), ap (λ (z : ℕ). pick (eqb z (a .x)) 1) (lacks (less-to-lack c))),
+      omega (
+        arith,
+        keyed-step (lackOf (a .amount) (a .weights .now)) one (l .i) (a .x),
+        ap (λ (z : ℕ). pick (eqb z (a .x)) 1) (lacks (less-to-lack c)),
+      ),
       filled-more 0 _ _ _ _ _ (omega arith) (shares (c .before .before)) (l .inv .3),
     )
 

@@ -64,7 +64,10 @@ abbrev B : Lfts 1 → RattleType
 B κs = T.the-row (namedLft 1 0 tt κs)
 
 abbrev stayed : Stays (this.ended .signature .params) (this.ended .kept)
-stayed = (stay-none-slice (0 ∷ []) tt (plain (λ _. u8)) yes, (stay-none (λ _. K.the-row) yes, (stay-none (λ _. u32) yes, tt)))
+stayed = (
+  stay-none-slice (0 ∷ []) tt (plain (λ _. u8)) yes,
+  (stay-none (λ _. K.the-row) yes, (stay-none (λ _. u32) yes, tt)),
+)
 
 module _ {M : Type 1} (𝓤 : URA M) (H : Heap 𝓤) (A : Atoms 𝓤) (mem : Memory → SProp 𝓤) (run : Routine → Fun 𝓤) where
   -- the contracts that the proof cites
@@ -74,7 +77,9 @@ module _ {M : Type 1} (𝓤 : URA M) (H : Heap 𝓤) (A : Atoms 𝓤) (mem : Mem
   abbrev Ask : Contract 𝓤
   Ask = tripleOf 𝓤 H A ask.signature (ask.spec 𝓤 H A mem run)
 
-module _ {M : Type 1} (𝓤 : URA M) (H : Heap 𝓤) (A : Atoms 𝓤) (W : Given 𝓤 H A) (mem : Memory → SProp 𝓤) (run : Routine → Fun 𝓤) (κ : Lft) (q : Share) (s : RefT (List ℕ)) (c : Counts) (k : ℕ) (fits : k < 2 ^ 32) (kis : Is K.the-row c (K′.lowered c ∷ [])) where
+module _ {M : Type 1} (𝓤 : URA M) (H : Heap 𝓤) (A : Atoms 𝓤) (W : Given 𝓤 H A) (mem : Memory → SProp 𝓤)
+    (run : Routine → Fun 𝓤) (κ : Lft) (q : Share) (s : RefT (List ℕ)) (c : Counts) (k : ℕ) (fits : k < 2 ^ 32)
+    (kis : Is K.the-row c (K′.lowered c ∷ [])) where
   -- the machine values
   abbrev v : Val
   v = sliceVal (s .ptr) (length (s .now))
@@ -93,7 +98,9 @@ module _ {M : Type 1} (𝓤 : URA M) (H : Heap 𝓤) (A : Atoms 𝓤) (W : Given
   at = (v ∷ [], (w ∷ [], (vint w32 k ∷ [], tt)))
 
   abbrev Post : Val → SProp 𝓤
-  Post = walkOf 𝓤 H A this.ended stayed (this.clauses 𝓤 H A mem run) .post (((κ, tt), (q, tt), tt, (s, (c, (k, tt))), at), tt)
+  Post =
+      walkOf 𝓤 H A this.ended stayed (this.clauses 𝓤 H A mem run) .post
+      (((κ, tt), (q, tt), tt, (s, (c, (k, tt))), at), tt)
 
   abbrev Own : Fml
   Own = ShrSlice (named 0) κ u8 .own s (v ∷ [])
@@ -102,72 +109,143 @@ module _ {M : Type 1} (𝓤 : URA M) (H : Heap 𝓤) (A : Atoms 𝓤) (W : Given
   abbrev to-new : New 𝓤 H A mem run .Ghost
   to-new = (((κ, tt), (q, tt), tt, (s, (c, tt)), (v ∷ [], (w ∷ [], tt))), tt)
 
-  asked-new : readOf (now s) ≡ Reading.Accepted c → ent 𝓤 (onEntry 𝓤 H A new.signature (κ, tt) (q, tt) (s, (c, tt)) (v ∷ [], (w ∷ [], tt))) (New 𝓤 H A mem run .pre to-new)
-  asked-new e = qed W ((‵ (flft κ q) ⊛ ‵ ftrue) ∷ ‵ (owns (ShrSlice (named 0) κ u8 ∷ K.the-row ∷ []) (s, (c, tt)) (v ∷ [], (w ∷ [], tt))) ∷ []) ∵ says ! e $ frame ! $ done !
+  asked-new : readOf (now s) ≡ Reading.Accepted c
+      → ent 𝓤 (onEntry 𝓤 H A new.signature (κ, tt) (q, tt) (s, (c, tt)) (v ∷ [], (w ∷ [], tt)))
+      (New 𝓤 H A mem run .pre to-new)
+  asked-new e =
+      qed W ((‵ (flft κ q) ⊛ ‵ ftrue) ∷
+      ‵ (owns (ShrSlice (named 0) κ u8 ∷ K.the-row ∷ []) (s, (c, tt)) (v ∷ [], (w ∷ [], tt))) ∷ []) ∵ says ! e $ frame
+      ! $ done !
 
-  goes-new : readOf (now s) ≡ Reading.Accepted c → ent 𝓤 (onEntry 𝓤 H A this.signature (κ, tt) (q, tt) (s, (c, (k, tt))) at) (sep 𝓤 (New 𝓤 H A mem run .pre to-new) (sem 𝓤 H A Own))
+  goes-new : readOf (now s) ≡ Reading.Accepted c
+      → ent 𝓤 (onEntry 𝓤 H A this.signature (κ, tt) (q, tt) (s, (c, (k, tt))) at)
+      (sep 𝓤 (New 𝓤 H A mem run .pre to-new) (sem 𝓤 H A Own))
   goes-new e =
-      qed W ((‵ (flft κ q) ⊛ ‵ ftrue) ∷ ‵ (owns (ShrSlice (named 0) κ u8 ∷ K.the-row ∷ u32 ∷ []) (s, (c, (k, tt))) at) ∷ []) ∵
-      move ! (1 ∷ []) $ fsplit ! $ use1 W (‵ Own ⊛ ‵ Own) (shr-slice-copy 𝓤 H A W (named 0) κ u8 .twice s (v ∷ [])) $ split ! $
+      qed W ((‵ (flft κ q) ⊛ ‵ ftrue) ∷ ‵ (owns (ShrSlice (named 0) κ u8 ∷ K.the-row ∷ u32 ∷ []) (s, (c, (k, tt))) at)
+      ∷ []) ∵
+      move ! (1 ∷ []) $ fsplit ! $ use1 W (‵ Own ⊛ ‵ Own) (shr-slice-copy 𝓤 H A W (named 0) κ u8 .twice s (v ∷ []))
+      $ split ! $
       -- [what s owns; what s owns; what the others own; the token]
-      move ! (2 ∷ []) $ drop ! $ nothing ! $ owned ! K.the-row (Is K.the-row) (LL.makes K.the-type K′.the-plain 𝓤 H A) c _ kis $ fjoin ! $ move ! (1 ∷ 0 ∷ []) $ fjoin ! $
+      move ! (2 ∷ []) $ drop ! $ nothing ! $ owned
+      ! K.the-row (Is K.the-row) (LL.makes K.the-type K′.the-plain 𝓤 H A) c _ kis $ fjoin ! $ move ! (1 ∷ 0 ∷ [])
+      $ fjoin ! $
       move ! (2 ∷ 0 ∷ []) $ use2 W (raw (New 𝓤 H A mem run .pre to-new)) (asked-new e) $ frame ! $ done !
 
-  new-said : (r : OpenSheet) → ent 𝓤 (ensured 𝓤 H A new.ended (new.clauses 𝓤 H A mem run) (κ, tt) (s, (c, tt)) tt r) (fact 𝓤 ((r .bytes ≡ s) × (r .counts ≡ c)))
-  new-said r = exE 𝓤 _ (λ ws. snd∗ 𝓤 (sem 𝓤 H A (lasts new.ended (κ, tt) (s, (c, tt)) ws)) (fact 𝓤 ((r .bytes ≡ s) × (r .counts ≡ c))))
+  new-said : (r : OpenSheet)
+      → ent 𝓤 (ensured 𝓤 H A new.ended (new.clauses 𝓤 H A mem run) (κ, tt) (s, (c, tt)) tt r)
+      (fact 𝓤 ((r .bytes ≡ s) × (r .counts ≡ c)))
+  new-said r =
+      exE 𝓤 _ (λ ws. snd∗ 𝓤 (sem 𝓤 H A (lasts new.ended (κ, tt) (s, (c, tt)) ws))
+      (fact 𝓤 ((r .bytes ≡ s) × (r .counts ≡ c))))
 
   -- the call of `stretch`, at the struct r with the machine value u
   abbrev to-ask : OpenSheet → Val → Ask 𝓤 H A mem run .Ghost
   to-ask r u = (((κ, tt), (q, tt), tt, (r, (k, tt)), (u ∷ [], (vint w32 k ∷ [], tt))), tt)
 
-  goes-ask : (r : OpenSheet) (u : Val) → readOf (now (r .bytes)) ≡ Reading.Accepted (r .counts) → ent 𝓤 (⋆ 𝓤 H A (‵ (B (κ, tt) .own r (u ∷ [])) ∷ (‵ (flft κ q) ⊛ ‵ ftrue) ∷ [])) (Ask 𝓤 H A mem run .pre (to-ask r u))
+  goes-ask : (r : OpenSheet) (u : Val)
+      → readOf (now (r .bytes)) ≡ Reading.Accepted (r .counts)
+      → ent 𝓤 (⋆ 𝓤 H A (‵ (B (κ, tt) .own r (u ∷ [])) ∷ (‵ (flft κ q) ⊛ ‵ ftrue) ∷ []))
+      (Ask 𝓤 H A mem run .pre (to-ask r u))
   goes-ask r u e =
-      qed W (‵ (B (κ, tt) .own r (u ∷ [])) ∷ (‵ (flft κ q) ⊛ ‵ ftrue) ∷ []) ∵ says ! e $ nothing ! $ owned ! u32 (Is u32) (uint-makes 𝓤 H A W w32) k _ (refl, fits) $ fjoin ! $ move ! (1 ∷ 0 ∷ []) $ fjoin ! $ move ! (1 ∷ 0 ∷ []) $ frame ! $ done !
+      qed W (‵ (B (κ, tt) .own r (u ∷ [])) ∷ (‵ (flft κ q) ⊛ ‵ ftrue) ∷ []) ∵ says ! e $ nothing ! $ owned
+      ! u32 (Is u32) (uint-makes 𝓤 H A W w32) k _ (refl, fits) $ fjoin ! $ move ! (1 ∷ 0 ∷ []) $ fjoin ! $ move
+      ! (1 ∷ 0 ∷ []) $ frame ! $ done !
 
-  ask-said : (r : OpenSheet) (t : RefT (List ℕ)) → ent 𝓤 (ensured 𝓤 H A ask.ended (ask.clauses 𝓤 H A mem run) (κ, tt) (r, (k, tt)) tt t) (fact 𝓤 (now t ≡ sectionOf (now (r .bytes)) (r .counts) k))
-  ask-said r t = exE 𝓤 _ (λ ws. snd∗ 𝓤 (sem 𝓤 H A (lasts ask.ended (κ, tt) (r, (k, tt)) ws)) (fact 𝓤 (now t ≡ sectionOf (now (r .bytes)) (r .counts) k)))
+  ask-said : (r : OpenSheet) (t : RefT (List ℕ))
+      → ent 𝓤 (ensured 𝓤 H A ask.ended (ask.clauses 𝓤 H A mem run) (κ, tt) (r, (k, tt)) tt t)
+      (fact 𝓤 (now t ≡ sectionOf (now (r .bytes)) (r .counts) k))
+  ask-said r t =
+      exE 𝓤 _ (λ ws. snd∗ 𝓤 (sem 𝓤 H A (lasts ask.ended (κ, tt) (r, (k, tt)) ws))
+      (fact 𝓤 (now t ≡ sectionOf (now (r .bytes)) (r .counts) k)))
 
-  exits : (t : RefT (List ℕ)) (u : Val) → now t ≡ found → ent 𝓤 (⋆ 𝓤 H A (‵ ((ShrSlice (named 0) κ u8) .own t (u ∷ [])) ∷ (‵ (flft κ q) ⊛ ‵ ftrue) ∷ ‵ Own ∷ [])) (Post u)
+  exits : (t : RefT (List ℕ)) (u : Val)
+      → now t ≡ found
+      → ent 𝓤 (⋆ 𝓤 H A (‵ ((ShrSlice (named 0) κ u8) .own t (u ∷ [])) ∷ (‵ (flft κ q) ⊛ ‵ ftrue) ∷ ‵ Own ∷ [])) (Post u)
   exits t u e =
       qed W (‵ ((ShrSlice (named 0) κ u8) .own t (u ∷ [])) ∷ (‵ (flft κ q) ⊛ ‵ ftrue) ∷ ‵ Own ∷ []) ∵
-      suffices ! _ (ends-at 𝓤 H A this.ended stayed (this.clauses 𝓤 H A mem run) W (((κ, tt), (q, tt), tt, (s, (c, (k, tt))), at), tt) u t (tt, (tt, (tt, tt))) (tt, (tt, (tt, tt)))) $ says ! e $
-      move ! (1 ∷ []) $ frame ! $ nothing ! $ owned ! u32 (Is u32) (uint-makes 𝓤 H A W w32) k _ (refl, fits) $ fjoin ! $ owned ! K.the-row (Is K.the-row) (LL.makes K.the-type K′.the-plain 𝓤 H A) c _ kis $ fjoin ! $
+      suffices ! _ (ends-at 𝓤 H A this.ended stayed (this.clauses 𝓤 H A mem run) W
+      (((κ, tt), (q, tt), tt, (s, (c, (k, tt))), at), tt) u t (tt, (tt, (tt, tt))) (tt, (tt, (tt, tt)))) $ says ! e $
+      move ! (1 ∷ []) $ frame ! $ nothing ! $ owned ! u32 (Is u32) (uint-makes 𝓤 H A W w32) k _ (refl, fits) $ fjoin !
+      $ owned ! K.the-row (Is K.the-row) (LL.makes K.the-type K′.the-plain 𝓤 H A) c _ kis $ fjoin ! $
       move ! (2 ∷ 0 ∷ []) $ fjoin ! $ frame ! $ done !
 
-  module _ (C : Calls 𝓤 H) (Λ : Loops 𝓤 H) (fm : FmC 𝓤 H (W .laws) C) (known-new : Triple 𝓤 (C #sheet·open) (New 𝓤 H A mem run)) (known-ask : Triple 𝓤 (C #sheet·stretch) (Ask 𝓤 H A mem run)) where
-    walk : Is (ShrSlice (named 0) κ u8) s (v ∷ []) → readOf (now s) ≡ Reading.Accepted c → ent 𝓤 (onEntry 𝓤 H A this.signature (κ, tt) (q, tt) (s, (c, (k, tt))) at) (WpFn 𝓤 H C Λ code.function (v ∷ w ∷ vint w32 k ∷ []) Post)
+  module _ (C : Calls 𝓤 H) (Λ : Loops 𝓤 H) (fm : FmC 𝓤 H (W .laws) C)
+      (known-new : Triple 𝓤 (C #sheet·open) (New 𝓤 H A mem run))
+      (known-ask : Triple 𝓤 (C #sheet·stretch) (Ask 𝓤 H A mem run)) where
+    walk : Is (ShrSlice (named 0) κ u8) s (v ∷ [])
+        → readOf (now s) ≡ Reading.Accepted c
+        → ent 𝓤 (onEntry 𝓤 H A this.signature (κ, tt) (q, tt) (s, (c, (k, tt))) at)
+        (WpFn 𝓤 H C Λ code.function (v ∷ w ∷ vint w32 k ∷ []) Post)
     walk p pre =
-        qed W (raw (onEntry 𝓤 H A this.signature (κ, tt) (q, tt) (s, (c, (k, tt))) at) ∷ []) ∵ enter ! C Λ code.function (v ∷ w ∷ vint w32 k ∷ []) _ $
+        qed W (raw (onEntry 𝓤 H A this.signature (κ, tt) (q, tt) (s, (c, (k, tt))) at) ∷ []) ∵ enter
+        ! C Λ code.function (v ∷ w ∷ vint w32 k ∷ []) _ $
         alloc1 ! (λ l₀. alloc1 ! (λ l₁. alloc1 ! (λ l₂. alloc1 ! (λ l₃. alloc1 ! (λ l₄. alloc0 ! $ params1 ! $
-        pass1 ! (init ! 6 refl (shr-slice-lawful 𝓤 H A W (named 0) κ u8 .typed s (v ∷ []) p .0)) $ pass1 ! (init ! 4 refl (LL.lawful K.the-type K′.the-laws 𝓤 H A W .typed c (w ∷ []) kis .0)) $ pass1 ! (init ! 2 refl (tt, record { fits = fits })) $ pass0 ! $
+        pass1 ! (init ! 6 refl (shr-slice-lawful 𝓤 H A W (named 0) κ u8 .typed s (v ∷ []) p .0)) $ pass1
+        ! (init ! 4 refl (LL.lawful K.the-type K′.the-laws 𝓤 H A W .typed c (w ∷ []) kis .0)) $ pass1
+        ! (init ! 2 refl (tt, record { fits = fits })) $ pass0 ! $
         move ! (10 ∷ []) $ use1 W (raw (New 𝓤 H A mem run .pre to-new) ⊛ ‵ Own) (goes-new pre) $ split ! $
-        calls-at ! fm (New 𝓤 H A mem run) known-new to-new (and-then ! (load ! (from ! (stop !)) (look ! 8 refl)) (and-then ! (load ! (from ! (stop !)) (look ! 6 refl)) (no-more !))) (λ u.
-        use1 W (later (some (λ (r : OpenSheet). ((‵ (flft κ q) ⊛ ‵ ftrue) ⊛ ‵ (B (κ, tt) .own r (u ∷ []))) ⊛ raw (ensured 𝓤 H A new.ended (new.clauses 𝓤 H A mem run) (κ, tt) (s, (c, tt)) tt r)))) (id⊢ 𝓤 _) $ await ! tt $ pick ! (λ r.
-        split ! $ move ! (1 ∷ []) $ use1 W (raw (fact 𝓤 ((r .bytes ≡ s) × (r .counts ≡ c)))) (new-said r) $ heard ! ((r .bytes ≡ s) × (r .counts ≡ c)) (λ e. split ! $ move ! (1 ∷ []) $
+        calls-at ! fm (New 𝓤 H A mem run) known-new to-new
+        (and-then ! (load ! (from ! (stop !)) (look ! 8 refl))
+        (and-then ! (load ! (from ! (stop !)) (look ! 6 refl)) (no-more !))) (λ u.
+        use1 W (later (some (λ (r : OpenSheet). ((‵ (flft κ q) ⊛ ‵ ftrue) ⊛ ‵ (B (κ, tt) .own r (u ∷ [])))
+        ⊛ raw (ensured 𝓤 H A new.ended (new.clauses 𝓤 H A mem run) (κ, tt) (s, (c, tt)) tt r)))) (id⊢ 𝓤 _) $ await ! tt
+        $ pick ! (λ r.
+        split ! $ move ! (1 ∷ []) $ use1 W (raw (fact 𝓤 ((r .bytes ≡ s) × (r .counts ≡ c)))) (new-said r) $ heard
+        ! ((r .bytes ≡ s) × (r .counts ≡ c)) (λ e. split ! $ move ! (1 ∷ []) $
         -- [what the struct owns; the token; what s owns; room for _4; …; _3; …; _2; …; _1; …; room for _0; …]
         peeks ! (B (κ, tt)) (Is (B (κ, tt))) (shows 𝓤 H A (B (κ, tt))) r (u ∷ []) (λ is.
         land ! (from ! (stop !)) (init ! 3 refl (LL.lawful (T.the-type αᵉ) (T′.the-laws αᵉ) 𝓤 H A W .typed r _ is .0)) $
-        use2 W (raw (Ask 𝓤 H A mem run .pre (to-ask r u))) (goes-ask r u (ap (λ (x : RefT (List ℕ)). readOf (now x)) (e .0) ∙ pre ∙ ap Reading.Accepted (sym (e .1)))) $
-        calls-at ! fm (Ask 𝓤 H A mem run) known-ask (to-ask r u) (and-then ! (load ! (from ! (stop !)) (look ! 2 refl)) (and-then ! (load ! (from ! (stop !)) (look ! 4 refl)) (no-more !))) (λ u′.
-        use1 W (later (some (λ (t : RefT (List ℕ)). ((‵ (flft κ q) ⊛ ‵ ftrue) ⊛ ‵ ((ShrSlice (named 0) κ u8) .own t (u′ ∷ []))) ⊛ raw (ensured 𝓤 H A ask.ended (ask.clauses 𝓤 H A mem run) (κ, tt) (r, (k, tt)) tt t)))) (id⊢ 𝓤 _) $ await ! tt $ pick ! (λ t.
-        split ! $ move ! (1 ∷ []) $ use1 W (raw (fact 𝓤 (now t ≡ sectionOf (now (r .bytes)) (r .counts) k))) (ask-said r t) $ heard ! (now t ≡ sectionOf (now (r .bytes)) (r .counts) k) (λ e′. split ! $ move ! (1 ∷ []) $
+        use2 W (raw (Ask 𝓤 H A mem run .pre (to-ask r u)))
+        (goes-ask r u (ap (λ (x : RefT (List ℕ)). readOf (now x)) (e .0) ∙ pre ∙ ap Reading.Accepted (sym (e .1)))) $
+        calls-at ! fm (Ask 𝓤 H A mem run) known-ask (to-ask r u)
+        (and-then ! (load ! (from ! (stop !)) (look ! 2 refl))
+        (and-then ! (load ! (from ! (stop !)) (look ! 4 refl)) (no-more !))) (λ u′.
+        use1 W (later (some (λ (t : RefT (List ℕ)).
+        ((‵ (flft κ q) ⊛ ‵ ftrue) ⊛ ‵ ((ShrSlice (named 0) κ u8) .own t (u′ ∷ [])))
+        ⊛ raw (ensured 𝓤 H A ask.ended (ask.clauses 𝓤 H A mem run) (κ, tt) (r, (k, tt)) tt t)))) (id⊢ 𝓤 _) $ await ! tt
+        $ pick ! (λ t.
+        split ! $ move ! (1 ∷ [])
+        $ use1 W (raw (fact 𝓤 (now t ≡ sectionOf (now (r .bytes)) (r .counts) k))) (ask-said r t) $ heard
+        ! (now t ≡ sectionOf (now (r .bytes)) (r .counts) k) (λ e′. split ! $ move ! (1 ∷ []) $
         -- [the result; the token; what s owns; _4; …; _3; …; _2; …; _1; …; room for _0; …]
-        peeks ! (ShrSlice (named 0) κ u8) (Is (ShrSlice (named 0) κ u8)) (shows 𝓤 H A (ShrSlice (named 0) κ u8)) t (u′ ∷ []) (λ is′.
+        peeks ! (ShrSlice (named 0) κ u8) (Is (ShrSlice (named 0) κ u8)) (shows 𝓤 H A (ShrSlice (named 0) κ u8)) t
+        (u′ ∷ []) (λ is′.
         land ! (from ! (stop !)) (init ! 11 refl (shr-slice-lawful 𝓤 H A W (named 0) κ u8 .typed t _ is′ .0)) $
-        returns ! (look ! 11 refl) $ forget ! 3 refl $ forget ! 5 refl $ forget ! 7 refl $ forget ! 9 refl $ forget ! 11 refl $
-        move ! (11 ∷ 12 ∷ []) $ free1 ! $ move ! (9 ∷ 10 ∷ []) $ free1 ! $ move ! (7 ∷ 8 ∷ []) $ free1 ! $ move ! (5 ∷ 6 ∷ []) $ free1 ! $ move ! (3 ∷ 4 ∷ []) $ free1 ! $ free0 ! $
-        by ! (exits t u′ (e′ ∙ (ap (λ (x : RefT (List ℕ)). sectionOf (now x) (r .counts) k) (e .0) ∙ ap (λ (y : Counts). sectionOf (now s) y k) (e .1)))))))))))))))))
+        returns ! (look ! 11 refl) $ forget ! 3 refl $ forget ! 5 refl $ forget ! 7 refl $ forget ! 9 refl $ forget
+        ! 11 refl $
+        move ! (11 ∷ 12 ∷ []) $ free1 ! $ move ! (9 ∷ 10 ∷ []) $ free1 ! $ move ! (7 ∷ 8 ∷ []) $ free1 ! $ move
+        ! (5 ∷ 6 ∷ []) $ free1 ! $ move ! (3 ∷ 4 ∷ []) $ free1 ! $ free0 ! $
+        by ! (exits t u′ (e′ ∙
+        (ap (λ (x : RefT (List ℕ)). sectionOf (now x) (r .counts) k) (e .0)
+        ∙ ap (λ (y : Counts). sectionOf (now s) y k) (e .1)))))))))))))))))
 
-module _ {M : Type 1} (𝓤 : URA M) (H : Heap 𝓤) (A : Atoms 𝓤) (W : Given 𝓤 H A) (mem : Memory → SProp 𝓤) (run : Routine → Fun 𝓤) where
-  this-walks : (C : Calls 𝓤 H) (Λ : Loops 𝓤 H) → FmC 𝓤 H (W .laws) C → Triple 𝓤 (C #sheet·open) (New 𝓤 H A mem run) → Triple 𝓤 (C #sheet·stretch) (Ask 𝓤 H A mem run)
+module _ {M : Type 1} (𝓤 : URA M) (H : Heap 𝓤) (A : Atoms 𝓤) (W : Given 𝓤 H A) (mem : Memory → SProp 𝓤)
+    (run : Routine → Fun 𝓤) where
+  this-walks : (C : Calls 𝓤 H) (Λ : Loops 𝓤 H)
+      → FmC 𝓤 H (W .laws) C
+      → Triple 𝓤 (C #sheet·open) (New 𝓤 H A mem run)
+      → Triple 𝓤 (C #sheet·stretch) (Ask 𝓤 H A mem run)
       → Walks 𝓤 H A this.ended stayed (WpFn 𝓤 H C Λ code.function) (this.clauses 𝓤 H A mem run)
-  this-walks C Λ fm known-new known-ask = walked 𝓤 H A this.ended stayed (this.clauses 𝓤 H A mem run) (WpFn 𝓤 H C Λ code.function) (λ κs. (slice-vals, (LL.vals K.the-type K′.the-laws, (uint-vals w32, tt)))) (λ κs. (shr-slice-tells (named 0) (κs .0) u8, (LL.tells K.the-type K′.the-laws, (uint-tells w32, tt))))
-      (λ κs qs bounds a g are. needs 𝓤 (readOf (now (a .0)) ≡ Reading.Accepted (a .1 .0)) _ (λ pre. walk 𝓤 H A W mem run (κs .0) (qs .0) (a .0) (a .1 .0) (a .1 .1 .0) (are .1 .1 .0 .1) (are .1 .0) C Λ fm known-new known-ask (are .0) pre))
+  this-walks C Λ fm known-new known-ask =
+      walked 𝓤 H A this.ended stayed (this.clauses 𝓤 H A mem run) (WpFn 𝓤 H C Λ code.function)
+      (λ κs. (slice-vals, (LL.vals K.the-type K′.the-laws, (uint-vals w32, tt))))
+      (λ κs. (shr-slice-tells (named 0) (κs .0) u8, (LL.tells K.the-type K′.the-laws, (uint-tells w32, tt))))
+      (λ κs qs bounds a g are. needs 𝓤 (readOf (now (a .0)) ≡ Reading.Accepted (a .1 .0)) _
+      (λ pre. walk 𝓤 H A W mem run (κs .0) (qs .0) (a .0) (a .1 .0) (a .1 .1 .0) (are .1 .1 .0 .1) (are .1 .0) C Λ fm
+      known-new known-ask (are .0) pre))
 
-this-meets : {M : Type 1} (𝓤 : URA M) (H : Heap 𝓤) (A : Atoms 𝓤) (W : Given 𝓤 H A) (mem : Memory → SProp 𝓤) (run : Routine → Fun 𝓤) (𝓣 : Tables 𝓤 H)
+this-meets : {M : Type 1} (𝓤 : URA M) (H : Heap 𝓤) (A : Atoms 𝓤) (W : Given 𝓤 H A) (mem : Memory → SProp 𝓤)
+    (run : Routine → Fun 𝓤) (𝓣 : Tables 𝓤 H)
     → Triple 𝓤 (𝓣 .C #sheet·open) (New 𝓤 H A mem run) → Triple 𝓤 (𝓣 .C #sheet·stretch) (Ask 𝓤 H A mem run)
     → Meets 𝓤 H A this.signature (WpFn 𝓤 H (𝓣 .C) (𝓣 .Λ) code.function) (this.spec 𝓤 H A mem run)
-this-meets 𝓤 H A W mem run 𝓣 known-new known-ask = walk-meets 𝓤 H A this.ended stayed W (goes-none-slice 𝓤 H A W 1 (0 ∷ []) tt (plain (λ _. u8)) yes, (goes-none 𝓤 H A W 1 (λ _. K.the-row) yes (λ κs x f. refl), (goes-none 𝓤 H A W 1 (λ _. u32) yes (λ κs x f. refl), tt))) (this.clauses 𝓤 H A mem run) (WpFn 𝓤 H (𝓣 .C) (𝓣 .Λ) code.function) (WpFn-mono 𝓤 H (W .laws) 𝓣 code.function)
+this-meets 𝓤 H A W mem run 𝓣 known-new known-ask =
+    walk-meets 𝓤 H A this.ended stayed W (
+      goes-none-slice 𝓤 H A W 1 (0 ∷ []) tt (plain (λ _. u8)) yes,
+      (
+        goes-none 𝓤 H A W 1 (λ _. K.the-row) yes (λ κs x f. refl),
+        (goes-none 𝓤 H A W 1 (λ _. u32) yes (λ κs x f. refl), tt),
+      ),
+    ) (this.clauses 𝓤 H A mem run) (WpFn 𝓤 H (𝓣 .C) (𝓣 .Λ) code.function) (WpFn-mono 𝓤 H (W .laws) 𝓣 code.function)
     (this-walks 𝓤 H A W mem run (𝓣 .C) (𝓣 .Λ) (fmOf 𝓤 H (W .laws) 𝓣) known-new known-ask)
 
 pub kept-stretch-spec : {M : Type 1} → stated.statement M
@@ -176,5 +254,7 @@ kept-stretch-spec 𝓤 H 𝓜 𝓖 𝓡 =
     entered 𝓤 H (tripleOf 𝓤 H (𝓖 .A) this.signature (this.spec 𝓤 H (𝓖 .A) (𝓜 .mem) (𝓡 .run)))
     (tables 𝓤 H 𝓜 𝓡 code.env .C) (tables 𝓤 H 𝓜 𝓡 code.env .Λ) #sheet·kept code.function (code.unfolded 𝓤 H 𝓜 𝓡)
     (this-meets 𝓤 H (𝓖 .A) (givenOf 𝓤 H 𝓜 𝓖) (𝓜 .mem) (𝓡 .run) (tablesOf 𝓤 H 𝓜 (tables 𝓤 H 𝓜 𝓡 code.env))
-    (cited 𝓤 H (New 𝓤 H (𝓖 .A) (𝓜 .mem) (𝓡 .run)) 𝓜 𝓡 code.env #sheet·open new-def.routine code.calls-sheet·opened·open (new-thm.met 𝓤 H 𝓜 𝓖 𝓡))
-    (cited 𝓤 H (Ask 𝓤 H (𝓖 .A) (𝓜 .mem) (𝓡 .run)) 𝓜 𝓡 code.env #sheet·stretch ask-def.routine code.calls-sheet·opened·stretch (ask-thm.met 𝓤 H 𝓜 𝓖 𝓡)))
+    (cited 𝓤 H (New 𝓤 H (𝓖 .A) (𝓜 .mem) (𝓡 .run)) 𝓜 𝓡 code.env #sheet·open new-def.routine code.calls-sheet·opened·open
+    (new-thm.met 𝓤 H 𝓜 𝓖 𝓡))
+    (cited 𝓤 H (Ask 𝓤 H (𝓖 .A) (𝓜 .mem) (𝓡 .run)) 𝓜 𝓡 code.env #sheet·stretch ask-def.routine
+    code.calls-sheet·opened·stretch (ask-thm.met 𝓤 H 𝓜 𝓖 𝓡)))
