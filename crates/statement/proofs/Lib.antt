@@ -12,4 +12,5 @@ pub mod Points
 pub mod Held
 pub mod Settled
 pub mod Cases
+pub mod Examples
 pub mod Emptied
