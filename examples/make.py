@@ -1,5 +1,5 @@
 #!/usr/bin/env python3
-"""Makes the sheets of this folder, and the readable dumps of the two worked ones, from the tables below.
+"""Makes the sheets of this folder, and the readable dumps of the worked ones, from the tables below.
 
 Run it anywhere: it writes beside itself. The pages (*.page) are not made here: they are what the sheets have to print.
 """
@@ -28,6 +28,14 @@ MARCH = dict(WORKED_HOUR, contracts=[(0, 1, 1, 6000, 400), (3, 1, 3, 7000, 100),
 
 # plant 2 must run 60 of its 100 kWh, though it is the dearest
 MUST_RUN = dict(WORKED_HOUR, plants=[(0, 0, 0, 5000, 700), (3, 0, 0, 8000, 500), (0, 1, 60, 9000, 100)])
+
+# agent 4 is a small generator outside central dispatch: it delivers 100 of the 1,110 kWh, takes 5, and sells 80 to retailer 2
+SMALL_GENERATOR = dict(
+    WORKED_HOUR,
+    agents=[(2,), (1,), (1,), (2,), (3,)],
+    boundaries=[(0, 0, 0, 600), (3, 0, 10, 410), (1, 0, 500, 0), (2, 1000, 400, 0), (4, 0, 5, 100)],
+    contracts=[(0, 1, 1, 6000, 400), (3, 1, 3, 7000, 100), (0, 1, 3, 7000, 50), (3, 2, 2, 6500, 500), (4, 2, 1, 6400, 80)],
+)
 
 EMPTY_HOUR = {section: [] for section in SECTIONS}
 
@@ -80,6 +88,8 @@ def main():
     (FOLDER / "worked-hour.txt").write_text(dump(WORKED_HOUR))
     (FOLDER / "must-run.sheet").write_bytes(sheet_bytes(MUST_RUN))
     (FOLDER / "must-run.txt").write_text(dump(MUST_RUN))
+    (FOLDER / "small-generator.sheet").write_bytes(sheet_bytes(SMALL_GENERATOR))
+    (FOLDER / "small-generator.txt").write_text(dump(SMALL_GENERATOR))
     (FOLDER / "march.sheet").write_bytes(sheet_bytes(MARCH))
     (FOLDER / "empty-hour.sheet").write_bytes(sheet_bytes(EMPTY_HOUR))
 

@@ -55,7 +55,7 @@ enum {
     NAOMHRAL_UNSHARED = 9,
     NAOMHRAL_UNCOVERED = 10,
     NAOMHRAL_NO_ROOM = 11,
-    NAOMHRAL_OVERRUN = 13, /* must-runs sum to more than the demand; after 10 and before 11 */
+    NAOMHRAL_OVERRUN = 13, /* must-runs sum to more than the plants have to meet; after 10 and before 11 */
     /* of a statement alone: the first of the five points that fails */
     NAOMHRAL_SHARES_DIFFER = 21,
     NAOMHRAL_SCHEDULE_DIFFERS = 22,
@@ -113,7 +113,7 @@ uint32_t naomhral_read(
 
 /* Writes a sheet from one list of numbers a section, the named fields row by row. Refusals 2 to 6, then 11. */
 uint32_t naomhral_write(
-    const uint32_t *agents, /* kind of each agent */
+    const uint32_t *agents, /* kind of each agent: 1 retailer, 2 generator, 3 small generator outside central dispatch */
     size_t agents_length, /* the agents, at most 64 */
     const uint32_t *boundaries, /* agent, factor, import, export of each boundary */
     size_t boundaries_length, /* 4 times the boundaries, at most 256 of them */

@@ -116,7 +116,9 @@ pub fn share(amount: u32, weights: &[u32], out: &mut [u32]) -> Answer<()> {
 
 /// What the pass over the rows takes out.
 struct Columns {
+    // a bit an agent: those metered as generators, and of these the small ones outside central dispatch
     generators: u64,
+    small: u64,
     imports: [u32; AGENTS],
     exports: [u32; AGENTS],
     holders: [u8; PLANTS],
@@ -143,10 +145,11 @@ fn referred(reading: u32, factor: u32) -> u32 {
 fn agent_rows(s: &Sections, c: &mut Columns) -> Answer<()> {
     for (i, row) in s.agents.chunks_exact(16).enumerate() {
         let kind = u128::from_le_bytes(row.try_into().unwrap());
-        if kind.wrapping_sub(1) > 1 {
+        if kind.wrapping_sub(1) > 2 {
             return refuse(3, i);
         }
-        c.generators |= (kind as u64 - 1) << (i & 63);
+        c.generators |= ((kind != 1) as u64) << (i & 63);
+        c.small |= ((kind == 3) as u64) << (i & 63);
     }
     Ok(())
 }
@@ -176,7 +179,7 @@ fn boundary_rows(s: &Sections, c: &mut Columns, agents: u32) -> Answer<()> {
 fn plant_rows(s: &Sections, c: &mut Columns) -> Answer<()> {
     for (i, [who, must, price, availability]) in rows(s.plants) {
         let (agent, flag) = (who & 0xffff, who >> 16);
-        let generates = (agent < 64) & ((c.generators >> (agent & 63)) & 1 == 1);
+        let generates = (agent < 64) & (((c.generators & !c.small) >> (agent & 63)) & 1 == 1);
         let bad_must = (must > availability) | ((flag == 0) & (must != 0));
         if !generates | (flag > 1) | (price > PRICE) | (availability > ENERGY) | bad_must {
             return refuse(5, i);
@@ -225,6 +228,7 @@ pub fn settle(
     let contracts = s.contracts.len() / 16;
     let mut c = Columns {
         generators: 0,
+        small: 0,
         imports: [0; AGENTS],
         exports: [0; AGENTS],
         holders: [0; PLANTS],
@@ -246,6 +250,8 @@ pub fn settle(
     let generators = c.generators;
     let generates = |a: usize| (generators >> (a & 63)) & 1 == 1;
     let mut consumption = [0u32; AGENTS];
+    let small = c.small;
+    let mut injected = 0u32;
     let (mut entering, mut leaving, mut consumed, mut own_imports) = (0u32, 0u32, 0u32, 0u32);
     for a in 0..agents {
         let (import, export) = (c.imports[a], c.exports[a]);
@@ -253,6 +259,9 @@ pub fn settle(
         leaving += import;
         if generates(a) {
             own_imports += import;
+            if (small >> (a & 63)) & 1 == 1 {
+                injected += export;
+            }
         } else {
             if export > import {
                 return refuse(7, a);
@@ -269,10 +278,12 @@ pub fn settle(
         return refuse(9, 0);
     }
     let demand = consumed + losses + own_imports;
-    if c.available < demand {
+    // what small generators export needs no schedule
+    let target = demand - injected;
+    if c.available < target {
         return refuse(10, 0);
     }
-    if c.must > demand {
+    if c.must > target {
         return refuse(13, 0);
     }
     let roomy = figures.len() >= 6 * agents && money.len() >= agents && schedule.len() >= plants && amounts.len() >= contracts;
@@ -290,12 +301,12 @@ pub fn settle(
         share_some(losses as u64, consumed as u64, &consumption[..agents], &mut losses_of[..agents], &mut keys);
     }
 
-    // own energy: a retailer's commercial demand, a generator's schedule
+    // own energy: a retailer's commercial demand, a small generator's export, any other's schedule
     let mut own = [0u32; AGENTS];
     for a in 0..agents {
-        own[a] = consumption[a] + losses_of[a];
+        own[a] = if (small >> (a & 63)) & 1 == 1 { c.exports[a] } else { consumption[a] + losses_of[a] };
     }
-    let price = dispatch(&mut c.plants[..plants], &c.holders, &c.musts, demand - c.must, schedule, &mut own);
+    let price = dispatch(&mut c.plants[..plants], &c.holders, &c.musts, target - c.must, schedule, &mut own);
 
     let mut contracted = [0u32; AGENTS];
     assign(&mut c, contracts, agents, &own, amounts, &mut contracted, &mut keys);

@@ -1,5 +1,5 @@
-//! Document 01 with P1 of document 02 written out plainly, from the papers alone: wide numbers, sorted copies, no thought of speed. The tests hold the
-//! proved library against it. Its functions have the shapes of the wrapper's.
+//! Document 01 with P1 and P5 of document 02 written out plainly, from the papers alone: wide numbers, sorted copies, no thought of
+//! speed. The tests hold the proved library against it. Its functions have the shapes of the wrapper's.
 
 use crate::answers::{Counts, Refusal, Summary};
 
@@ -22,6 +22,8 @@ const FACTOR: u32 = 5_000;
 
 const RETAILER: u32 = 1;
 const GENERATOR: u32 = 2;
+// outside central dispatch
+const SMALL: u32 = 3;
 
 pub struct Boundary {
     pub agent: u32,
@@ -59,12 +61,16 @@ impl Sheet {
         self.kinds.get(agent as usize).copied()
     }
 
+    fn generates(&self, agent: u32) -> bool {
+        matches!(self.kind_of(agent), Some(GENERATOR | SMALL))
+    }
+
     fn good_boundary(&self, b: &Boundary) -> bool {
         self.kind_of(b.agent).is_some()
             && b.factor <= FACTOR
             && b.import <= ENERGY
             && b.export <= ENERGY
-            && !(self.kind_of(b.agent) == Some(GENERATOR) && b.factor != 0)
+            && !(self.generates(b.agent) && b.factor != 0)
     }
 
     fn good_plant(&self, p: &Plant) -> bool {
@@ -77,7 +83,7 @@ impl Sheet {
     }
 
     fn good_contract(&self, c: &Contract) -> bool {
-        self.kind_of(c.seller) == Some(GENERATOR)
+        self.generates(c.seller)
             && self.kind_of(c.buyer) == Some(RETAILER)
             && (1..=3).contains(&c.kind)
             && c.price <= PRICE
@@ -86,7 +92,7 @@ impl Sheet {
 }
 
 fn good_kind(kind: u32) -> bool {
-    kind == RETAILER || kind == GENERATOR
+    kind == RETAILER || kind == GENERATOR || kind == SMALL
 }
 
 /// Four words of a row.
@@ -371,10 +377,13 @@ pub fn hour(sheet: &[u8]) -> Answer<Hour> {
     let commercial: Vec<u64> = (0..agents).map(|a| consumption[a] + loss_shares[a]).collect();
     let own_import: Vec<u64> = (0..agents).map(|a| if retails(a) { 0 } else { imports[a] }).collect();
     let demand = commercial.iter().sum::<u64>() + own_import.iter().sum::<u64>();
-    if s.plants.iter().map(|p| p.availability as u64).sum::<u64>() < demand {
+    // the schedule sums to the demand less what small generators export
+    let small: u64 = (0..agents).filter(|&a| s.kinds[a] == SMALL).map(|a| exports[a]).sum();
+    let to_schedule = demand - small;
+    if s.plants.iter().map(|p| p.availability as u64).sum::<u64>() < to_schedule {
         return refuse(10, 0);
     }
-    if s.plants.iter().map(|p| p.must_run as u64).sum::<u64>() > demand {
+    if s.plants.iter().map(|p| p.must_run as u64).sum::<u64>() > to_schedule {
         return refuse(13, 0);
     }
 
@@ -387,7 +396,7 @@ pub fn hour(sheet: &[u8]) -> Answer<Hour> {
         }
     }
 
-    let schedule = dispatched(demand, &s.plants);
+    let schedule = dispatched(to_schedule, &s.plants);
     let price = (0..s.plants.len())
         .filter(|&i| s.plants[i].inflexible == 0 && schedule[i] > 0)
         .map(|i| s.plants[i].price as u64)
@@ -397,6 +406,8 @@ pub fn hour(sheet: &[u8]) -> Answer<Hour> {
     let line = |a: usize| {
         let own = if retails(a) {
             commercial[a]
+        } else if s.kinds[a] == SMALL {
+            exports[a]
         } else {
             (0..s.plants.len()).filter(|&i| s.plants[i].agent as usize == a).map(|i| schedule[i]).sum()
         };

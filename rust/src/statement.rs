@@ -24,6 +24,7 @@ const BOUGHT: usize = 4;
 const SOLD: usize = 5;
 
 const RETAILER: u32 = 1;
+const SMALL: u32 = 3;
 
 /// The sheet with what it says by itself, and the statement of it.
 struct Case<'a> {
@@ -138,6 +139,8 @@ impl Case<'_> {
         let plants = &self.sheet.plants;
         let demands = self.agents().filter(|&a| self.retails(a)).map(|a| self.demand(a));
         let demand = demands.sum::<i128>() + self.agents().map(|a| self.import(a)).sum::<i128>();
+        // what small generators export needs no schedule
+        let demand = demand - self.agents().map(|a| self.injected(a)).sum::<i128>();
         let within = |i: usize| (plants[i].must_run as i128..=plants[i].availability as i128).contains(&self.scheduled(i));
         let possible = (0..plants.len()).map(|i| self.scheduled(i)).sum::<i128>() == demand && (0..plants.len()).all(within);
         let above_must_run = |i: usize| self.scheduled(i) > plants[i].must_run as i128;
@@ -166,7 +169,7 @@ impl Case<'_> {
     /// 25: the lines follow from shares, schedule, amounts and price. A generator's own import is added to what it buys.
     fn lines_follow(&self) -> bool {
         self.agents().all(|a| {
-            let own = if self.retails(a) { self.demand(a) } else { self.made_by(a) };
+            let own = if self.retails(a) { self.demand(a) } else { self.made_by(a) + self.injected(a) };
             let contracted = self.contracted_by(a);
             let (lacks, exceeds) = ((own - contracted).max(0), (contracted - own).max(0));
             let (bought, sold) = if self.retails(a) { (lacks, exceeds) } else { (exceeds + self.import(a), lacks) };
@@ -178,6 +181,12 @@ impl Case<'_> {
                 && self.figure(a, SOLD) == sold
                 && self.theirs.money[a] as i128 == money
         })
+    }
+
+    /// What a small generator exports: its own energy, since it has no plants.
+    fn injected(&self, a: usize) -> i128 {
+        let own = self.sheet.boundaries.iter().filter(|b| b.agent as usize == a && self.sheet.kinds[a] == SMALL);
+        own.map(|b| b.export as i128).sum()
     }
 
     fn made_by(&self, a: usize) -> i128 {

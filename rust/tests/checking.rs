@@ -48,6 +48,12 @@ impl Settled {
         self.rows.kinds[a] == 1
     }
 
+    /// What a small generator exports, 0 for others.
+    fn injected(&self, a: usize) -> u64 {
+        let own = self.rows.boundaries.iter().filter(|b| b.agent as usize == a && self.rows.kinds[a] == 3);
+        own.map(|b| b.export as u64).sum()
+    }
+
     fn consumptions(&self) -> Vec<u64> {
         let agents = self.ours.lines.iter().enumerate();
         agents.map(|(a, line)| if self.retails(a) { line.own - line.share } else { 0 }).collect()
@@ -79,7 +85,8 @@ impl Settled {
     fn dispatched(&self, random: &mut Random) -> Vec<u64> {
         let plants = &self.rows.plants;
         let mut schedule: Vec<u64> = plants.iter().map(|p| p.must_run as u64).collect();
-        let mut left = self.ours.demand - schedule.iter().sum::<u64>();
+        let small: u64 = (0..self.rows.kinds.len()).map(|a| self.injected(a)).sum();
+        let mut left = self.ours.demand - small - schedule.iter().sum::<u64>();
         let mut order: Vec<usize> = (0..plants.len()).collect();
         shuffle(random, &mut order);
         order.sort_by_key(|&i| plants[i].price);
@@ -140,7 +147,7 @@ impl Settled {
             let made = self.rows.plants.iter().zip(&draft.schedule).filter(|(p, _)| p.agent as usize == a);
             let (own, contracted) = match self.retails(a) {
                 true => (consumptions[a] + draft.shares[a], sum(&|c| c.buyer)),
-                false => (made.map(|(_, &q)| q).sum(), sum(&|c| c.seller)),
+                false => (made.map(|(_, &q)| q).sum::<u64>() + self.injected(a), sum(&|c| c.seller)),
             };
             let (less, more) = (contracted.saturating_sub(own), own.saturating_sub(contracted));
             let (bought, sold) = if self.retails(a) { (more, less) } else { (less + line.import, more) };
@@ -494,14 +501,17 @@ fn tiny(random: &mut Random) -> Rows {
     let losses = if demand == 0 { 0 } else { random.range(0, 4) };
     let second = random.range(0, 3).min(demand);
     let made = demand + losses;
-    let mut rows = Rows { agents: vec![2, 1, 1, 2], ..Rows::default() };
-    rows.boundaries = vec![[0, 0, 0, made], [1, 0, demand - second, 0], [2, 0, second, 0]];
+    // now and then agent 3 is a small generator, which makes some of it
+    let small = random.once_in(4);
+    let injected = if small { random.range(0, made) } else { 0 };
+    let mut rows = Rows { agents: vec![2, 1, 1, if small { 3 } else { 2 }], ..Rows::default() };
+    rows.boundaries = vec![[0, 0, 0, made - injected], [1, 0, demand - second, 0], [2, 0, second, 0], [3, 0, 0, injected]];
     let mut room = 0;
     for i in 0..3 {
         let available = if i == 2 { made - made.min(room) + random.range(0, 2) } else { random.range(0, 4) };
         let inflexible = random.range(0, 1);
         let must_run = if random.once_in(2) { inflexible * random.range(0, available) } else { 0 };
-        rows.plants.push([3 * random.range(0, 1), inflexible, must_run, random.range(7, 8), available]);
+        rows.plants.push([if small { 0 } else { 3 * random.range(0, 1) }, inflexible, must_run, random.range(7, 8), available]);
         room += available;
     }
     for _ in 0..random.range(0, 4) {

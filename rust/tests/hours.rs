@@ -76,6 +76,8 @@ struct Seen {
     losses_cut: usize,
     retailers_selling: usize,
     generators_buying: usize,
+    small_selling: usize,
+    small_buying: usize,
 }
 
 impl Seen {
@@ -98,6 +100,8 @@ impl Seen {
         self.losses_cut += is(h.losses > 0 && h.lines.iter().filter(|l| l.share > 0).count() > 1);
         self.retailers_selling += is(h.lines.iter().zip(&h.kinds).any(|(l, &k)| k == 1 && l.sold > 0));
         self.generators_buying += is(h.lines.iter().zip(&h.kinds).any(|(l, &k)| k == 2 && l.bought > 0));
+        self.small_selling += is(h.lines.iter().zip(&h.kinds).any(|(l, &k)| k == 3 && l.sold > 0));
+        self.small_buying += is(h.lines.iter().zip(&h.kinds).any(|(l, &k)| k == 3 && l.bought > 0));
     }
 
     fn check(&self) {
@@ -118,6 +122,8 @@ impl Seen {
             self.losses_cut,
             self.retailers_selling,
             self.generators_buying,
+            self.small_selling,
+            self.small_buying,
         ];
         assert!(features.iter().all(|&f| f >= 500), "a case is too rare: {features:?}");
     }
@@ -127,7 +133,15 @@ fn number_of<T>(answer: &Result<T, Refusal>) -> usize {
     answer.as_ref().err().map_or(0, |r| r.number as usize)
 }
 
-/// Each hour balances by itself: shares sum to the losses, schedules to the demand, and all that is bought is sold.
+/// What each small generator exports, 0 for other agents.
+fn injections(sheet: &[u8]) -> Vec<u64> {
+    let s = plain::open(sheet).unwrap();
+    let of = |a: usize| s.boundaries.iter().filter(move |b| b.agent as usize == a).map(|b| b.export as u64).sum();
+    (0..s.kinds.len()).map(|a| if s.kinds[a] == 3 { of(a) } else { 0 }).collect()
+}
+
+/// Each hour balances by itself: shares sum to the losses, schedules and small generators' exports to the demand, and all that is
+/// bought is sold.
 fn balances(sheet: &[u8], lists: &mut Lists, summary: Summary) {
     let counts = naomhral::read(sheet).unwrap();
     let figures = lists.figures.list();
@@ -135,7 +149,8 @@ fn balances(sheet: &[u8], lists: &mut Lists, summary: Summary) {
     assert_eq!(sum(0), summary.losses as u64);
     assert_eq!(sum(4), sum(5));
     let schedule = &lists.schedule.list()[..counts.plants as usize];
-    assert_eq!(schedule.iter().map(|&q| q as u64).sum::<u64>(), summary.demand as u64);
+    let small: u64 = injections(sheet).iter().sum();
+    assert_eq!(schedule.iter().map(|&q| q as u64).sum::<u64>() + small, summary.demand as u64);
     assert_eq!(lists.money.list()[..counts.agents as usize].iter().sum::<i64>(), 0);
 }
 

@@ -15,22 +15,23 @@ use Rattle.share.proofs.Laws.{share-fine}
 use Rattle.rows.specs.Limits.{mostAgents}
 use Rattle.sums.proofs.Sums.{sum-eq, sum-add}
 use Rattle.sums.proofs.First.{first-eq}
-use Rattle.rows.specs.Rows.{isRetailer}
-use Rattle.hour.specs.Sheet.{Sheet, agents, retails}
-use Rattle.hour.specs.Balance.{imported, exported, consumption, consumed, consumptions, ownImport, entering, leaving, losses, lossShare, commercial, hourDemand}
+use Rattle.rows.specs.Rows.{carriesLosses, isOutside}
+use Rattle.hour.specs.Sheet.{Sheet, agents, retails, outside}
+use Rattle.hour.specs.Sound.{Sound}
+use Rattle.hour.specs.Balance.{imported, exported, consumption, consumed, consumptions, ownImport, entering, leaving, losses, lossShare, commercial, hourDemand, injected, smallExports, dispatchDemand}
 use Rattle.hour.specs.Answer.{firstOver}
-use Rattle.hour.proofs.Demand.{weights-long}
+use Rattle.hour.proofs.Demand.{weights-long, small-metered}
 use Rattle.balance.specs.Balances.{zeros}
 use Rattle.balance.specs.Parts.{Read}
 
 module _ (h : Sheet) (n : ℕ) (kinds imports exports used : List ℕ) (r : Read h n kinds imports exports used) where
-  pub over-is : first n (λ a. isRetailer (at kinds a) && ltb (at imports a) (at exports a)) ≡ firstOver h
+  pub over-is : first n (λ a. carriesLosses (at kinds a) && ltb (at imports a) (at exports a)) ≡ firstOver h
   unfolding firstOver retails
   over-is =
       rw (r .count)
       (first-eq n _ _
-      (λ a l. ap (λ (k : ℕ). isRetailer k && ltb (at imports a) (at exports a)) (r .kind .done a l)
-      ∙ ap₂ (λ (x y : ℕ). isRetailer (at (h .kinds) a) && ltb x y) (r .took a l) (r .gave a l)))
+      (λ a l. ap (λ (k : ℕ). carriesLosses k && ltb (at imports a) (at exports a)) (r .kind .done a l)
+      ∙ ap₂ (λ (x y : ℕ). carriesLosses (at (h .kinds) a) && ltb x y) (r .took a l) (r .gave a l)))
 
   pub entering-is : sum n (at exports) ≡ entering h
   unfolding entering
@@ -46,13 +47,17 @@ module _ (h : Sheet) (n : ℕ) (kinds imports exports used : List ℕ) (r : Read
 
 -- ---- one agent
 module _ (h : Sheet) (a k x y : ℕ) (p : k ≡ at (h .kinds) a) (q : x ≡ imported h a) where
-  pub used-is : y ≡ exported h a → pick (isRetailer k) (x - y) ≡ consumption h a
+  pub used-is : y ≡ exported h a → pick (carriesLosses k) (x - y) ≡ consumption h a
   unfolding consumption retails
   used-is r = rw (p, q, r)
 
-  pub own-is : pick (not (isRetailer k)) x ≡ ownImport h a
+  pub taken-is : pick (not (carriesLosses k)) x ≡ ownImport h a
   unfolding ownImport retails
-  own-is = rw (p, q)
+  taken-is = rw (p, q)
+
+pub injected-is : (h : Sheet) (a k y : ℕ) → k ≡ at (h .kinds) a → y ≡ exported h a → pick (isOutside k) y ≡ injected h a
+unfolding injected outside
+injected-is h a k y p q = rw (p, q)
 
 pub commercial-is : (h : Sheet) (a : ℕ) → consumption h a + lossShare h a ≡ commercial h a
 unfolding commercial
@@ -81,3 +86,11 @@ module _ (h : Sheet) where
     pub demand-is : sum n (commercial h) + sum n (ownImport h) ≡ hourDemand h
     unfolding hourDemand
     demand-is = rw e (sym (sum-add n _ _))
+
+    -- small generators' exports, and the demand without them
+    pub small-is : Sound h → sum n (injected h) ≡ smallExports h
+    small-is ok = rw (sym e) (small-metered h ok)
+
+    pub target-is : (x y : ℕ) → Sound h → x ≡ hourDemand h → y ≡ sum n (injected h) → x - y ≡ dispatchDemand h
+    unfolding dispatchDemand hourDemand
+    target-is x y ok p q = ap₂ _-_ p (q ∙ small-is ok)

@@ -22,7 +22,7 @@ use Rattle.columns.specs.Columns.{columnsOf}
 use Rattle.columns.proofs.Columns.{boundaries-long, kind-at, owner-at, factor-at, import-at, export-at}
 use Rattle.hour.specs.Sheet.{agents, boundaries}
 use Rattle.hour.specs.Balance.{referred, imported, exported}
-use Rattle.hour.proofs.Bounds.{referred-le}
+use Rattle.hour.proofs.Bounds.{mostReferred, referred-le}
 
 -- row j of a boundary section
 abbrev pub row : (section : List ℕ) → ℕ → Boundary
@@ -85,14 +85,14 @@ module _ (s : List ℕ) (c : Counts) (e : readOf s ≡ Reading.Accepted c) where
           export = r .fits .export;
         })
 
-    -- j rows of one agent come to at most 6,000,000 each
+    -- j rows of one agent come to at most so much each
     module _ (j a : ℕ) (h : j ≤ c .boundaries) where
-      pub taken-most : keyed (owner b) (taken b) j a ≤ 6000000 * j
+      pub taken-most : keyed (owner b) (taken b) j a ≤ mostReferred * j
       taken-most =
-          keyed-most (owner b) (taken b) j a 6000000
+          keyed-most (owner b) (taken b) j a mostReferred
           (λ k l. let r = row-sound k (omega arith) in referred-le _ _ (r .import) (r .factor))
 
-      pub given-most : keyed (owner b) (given b) j a ≤ 6000000 * j
+      pub given-most : keyed (owner b) (given b) j a ≤ mostReferred * j
       given-most =
-          keyed-most (owner b) (given b) j a 6000000
+          keyed-most (owner b) (given b) j a mostReferred
           (λ k l. let r = row-sound k (omega arith) in referred-le _ _ (r .export) (r .factor))

@@ -33,9 +33,11 @@ module _ (v : Verdict) (c : Counts) where
         kinds = filled-count 0 _ _ 0 _ _ (none _) (filled-none 0 _ _);
         shares = filled-count 0 _ _ 0 _ _ (none _) (filled-none 0 _ _);
         commercial = filled-count 0 _ _ 0 _ _ (none _) (filled-none 0 _ _);
+        own = filled-count 0 _ _ 0 _ _ (none _) (filled-none 0 _ _);
         imports = filled-count 0 _ _ 0 _ _ (none _) (filled-none 0 _ _);
         losses = none _;
         demand = none _;
+        target = none _;
       }
 
 -- ---- from an accepted sheet to its bytes
@@ -87,12 +89,24 @@ pub one-balance : {v : Verdict} {c : Counts} {h : Sheet} {q r : Balance} → Bal
 one-balance {v} {c} {h} {q} {r} x y =
     same q r (x .answer ∙ sym (y .answer)) (x .counts ∙ sym (y .counts))
     (filled-unique 0 _ _ _ _ _ (x .kinds) (y .kinds)) (filled-unique 0 _ _ _ _ _ (x .shares) (y .shares))
-    (filled-unique 0 _ _ _ _ _ (x .commercial) (y .commercial)) (filled-unique 0 _ _ _ _ _ (x .imports) (y .imports))
-    (x .losses ∙ sym (y .losses)) (x .demand ∙ sym (y .demand))
+    (filled-unique 0 _ _ _ _ _ (x .commercial) (y .commercial)) (filled-unique 0 _ _ _ _ _ (x .own) (y .own))
+    (filled-unique 0 _ _ _ _ _ (x .imports) (y .imports))
+    (x .losses ∙ sym (y .losses)) (x .demand ∙ sym (y .demand)) (x .target ∙ sym (y .target))
   where
-    all : Verdict → Counts → (kinds shares commercial imports : List ℕ) (losses demand : ℕ) → Balance
-    all v n k s c i l d =
-        record { verdict = v; counts = n; kinds = k; shares = s; commercial = c; imports = i; losses = l; demand = d }
+    all : Verdict → Counts → (kinds shares commercial own imports : List ℕ) (losses demand target : ℕ) → Balance
+    all v n k s c o i l d t =
+        record {
+          verdict = v;
+          counts = n;
+          kinds = k;
+          shares = s;
+          commercial = c;
+          own = o;
+          imports = i;
+          losses = l;
+          demand = d;
+          target = t;
+        }
 
     same : (q r : Balance)
         → q .verdict ≡ r .verdict
@@ -100,7 +114,10 @@ one-balance {v} {c} {h} {q} {r} x y =
         → q .kinds ≡ r .kinds
         → q .shares ≡ r .shares
         → q .commercial ≡ r .commercial
-        → q .imports ≡ r .imports → q .losses ≡ r .losses → q .demand ≡ r .demand
-        → all (q .verdict) (q .counts) (q .kinds) (q .shares) (q .commercial) (q .imports) (q .losses) (q .demand)
-        ≡ all (r .verdict) (r .counts) (r .kinds) (r .shares) (r .commercial) (r .imports) (r .losses) (r .demand)
-    same q r v n k s c i l d = rw (v, n, k, s, c, i, l, d)
+        → q .own ≡ r .own
+        → q .imports ≡ r .imports → q .losses ≡ r .losses → q .demand ≡ r .demand → q .target ≡ r .target
+        → all (q .verdict) (q .counts) (q .kinds) (q .shares) (q .commercial) (q .own) (q .imports) (q .losses) (q .demand)
+        (q .target)
+        ≡ all (r .verdict) (r .counts) (r .kinds) (r .shares) (r .commercial) (r .own) (r .imports) (r .losses) (r .demand)
+        (r .target)
+    same q r v n k s c o i l d t = rw (v, n, k, s, c, o, i, l, d, t)

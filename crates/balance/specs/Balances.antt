@@ -1,5 +1,5 @@
 -- Document 01, 'From readings to commercial demand': what weighing the readings of a sheet answers. Assumes nothing.
-use Prim.Native.Nat.{ℕ}
+use Prim.Native.Nat.{ℕ, _+_}
 use mathlib.Core.List.{List}
 use mathlib.Core.Path.{_≡_}
 use lib.ListN.{replicate}
@@ -11,7 +11,7 @@ use Rattle.sheet.specs.Reading.{readVerdict, countsOf}
 use Rattle.sheet.specs.declared.Counts.{Counts}
 use Rattle.columns.specs.Columns.{hourOf}
 use Rattle.hour.specs.Sheet.{Sheet, agents}
-use Rattle.hour.specs.Balance.{ownImport, losses, lossShare, commercial, hourDemand}
+use Rattle.hour.specs.Balance.{ownImport, losses, lossShare, commercial, hourDemand, injected, dispatchDemand}
 use Rattle.hour.specs.Answer.{balanceVerdict}
 use Rattle.balance.specs.declared.Balance.{Balance}
 
@@ -36,22 +36,31 @@ nothing v =
       kinds = zeros;
       shares = zeros;
       commercial = zeros;
+      own = zeros;
       imports = zeros;
       losses = 0;
       demand = 0;
+      target = 0;
     }
 
--- by the verdict v of the sheet h with the counts c: where it is fine the agents' kinds, loss shares, commercial demands and own
--- imports stand in the first cells, with the counts, the losses and the hour's demand; where it is refused all is 0
+-- own energy but for what plants are scheduled: commercial demand, or what a small generator delivers. Nobody has both
+abbrev pub unscheduled : Sheet → ℕ → ℕ
+unscheduled h a = commercial h a + injected h a
+
+-- by the verdict v of the sheet h with the counts c: where it is fine the agents' kinds, loss shares, commercial demands, own energy
+-- and own imports stand in the first cells, with the counts, the losses, the hour's demand and what central dispatch has to meet of it;
+-- where it is refused all is 0
 pub record Balances (v : Verdict) (c : Counts) (h : Sheet) (r : Balance) : Type 0 where
   pub answer : r .verdict ≡ v
   pub counts : r .counts ≡ countsIf v c
   pub kinds : Filled 0 zeros (r .kinds) (cells v (agents h)) (at (h .kinds))
   pub shares : Filled 0 zeros (r .shares) (cells v (agents h)) (lossShare h)
   pub commercial : Filled 0 zeros (r .commercial) (cells v (agents h)) (commercial h)
+  pub own : Filled 0 zeros (r .own) (cells v (agents h)) (unscheduled h)
   pub imports : Filled 0 zeros (r .imports) (cells v (agents h)) (ownImport h)
   pub losses : r .losses ≡ cells v (losses h)
   pub demand : r .demand ≡ cells v (hourDemand h)
+  pub target : r .target ≡ cells v (dispatchDemand h)
 
 -- refusals 1 to 6 are reading's, 7 to 9 the balance's
 unfoldable pub weighVerdict : List ℕ → Verdict

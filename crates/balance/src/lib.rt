@@ -14,7 +14,7 @@ ghost use Rattle.sums.specs.Sums.{sum, pick, first};
 ghost use Rattle.sums.specs.Lists.{at, Filled};
 ghost use Rattle.refusals.specs.Refusals.{cells};
 ghost use Rattle.rows.specs.Limits.{mostAgents, mostFactor, mostReading};
-ghost use Rattle.rows.specs.Rows.{isRetailer};
+ghost use Rattle.rows.specs.Rows.{carriesLosses, isOutside};
 ghost use Rattle.sheet.specs.Reading.{readOf};
 ghost use Rattle.sheet.specs.declared.Reading.{Reading};
 ghost use Rattle.columns.specs.Columns.{columnsOf};
@@ -31,9 +31,13 @@ pub struct Balance {
     pub kinds: [u32; Agent::MOST],
     pub shares: [u32; Agent::MOST],
     pub commercial: [u32; Agent::MOST],
+    // Own energy but for what plants are scheduled: commercial demand, or what a small generator delivers.
+    pub own: [u32; Agent::MOST],
     pub imports: [u32; Agent::MOST],
     pub losses: u32,
     pub demand: u32,
+    // What central dispatch has to meet of the demand.
+    pub target: u32,
 }
 
 // One reading, referred.
@@ -79,22 +83,29 @@ fn meter(s: &[u8], c: Counts, imports: &mut [u32], exports: &mut [u32])
 
 // v of a retailer, 0 of a generator.
 fn of_retailer(kind: u32, v: u32) -> u32
-    ensures { λ r. ⌜ r ≡ pick (isRetailer kind) v ⌝ }
+    ensures { λ r. ⌜ r ≡ pick (carriesLosses kind) v ⌝ }
 {
-    if kind == Agent::RETAILER { v } else { 0 }
+    if rows::carries_losses(kind) { v } else { 0 }
 }
 
 // v of a generator, 0 of a retailer.
 fn of_generator(kind: u32, v: u32) -> u32
-    ensures { λ r. ⌜ r ≡ pick (not (isRetailer kind)) v ⌝ }
+    ensures { λ r. ⌜ r ≡ pick (not (carriesLosses kind)) v ⌝ }
 {
-    if kind == Agent::RETAILER { 0 } else { v }
+    if rows::carries_losses(kind) { 0 } else { v }
+}
+
+// v of a small generator, 0 of any other agent.
+fn of_small(kind: u32, v: u32) -> u32
+    ensures { λ r. ⌜ r ≡ pick (isOutside kind) v ⌝ }
+{
+    if rows::is_outside(kind) { v } else { 0 }
 }
 
 // A retailer's imports less its exports; nothing of a generator.
 fn consumptions(kinds: &[u32], imports: &[u32], exports: &[u32], n: usize, out: &mut [u32])
     requires { ⌜ (n ≤ length (now kinds)) × (n ≤ length (now imports)) × (n ≤ length (now exports)) × (n ≤ length (now out)) ⌝ }
-    ensures { λ _. ⌜ Filled 0 (now (out .entry)) (now (out .exit)) n (λ a. pick (isRetailer (at (now (kinds .entry)) a)) (at (now (imports .entry)) a - at (now (exports .entry)) a)) ⌝ }
+    ensures { λ _. ⌜ Filled 0 (now (out .entry)) (now (out .exit)) n (λ a. pick (carriesLosses (at (now (kinds .entry)) a)) (at (now (imports .entry)) a - at (now (exports .entry)) a)) ⌝ }
 {
     let mut a = 0;
     while a < n {
@@ -106,11 +117,28 @@ fn consumptions(kinds: &[u32], imports: &[u32], exports: &[u32], n: usize, out: 
 // A generator's imports; nothing of a retailer.
 fn own_imports(kinds: &[u32; Agent::MOST], imports: &[u32; Agent::MOST], n: usize, out: &mut [u32])
     requires { ⌜ (n ≤ mostAgents) × (n ≤ length (now out)) ⌝ }
-    ensures { λ _. ⌜ Filled 0 (now (out .entry)) (now (out .exit)) n (λ a. pick (not (isRetailer (at (now (kinds .entry)) a))) (at (now (imports .entry)) a)) ⌝ }
+    ensures { λ _. ⌜ Filled 0 (now (out .entry)) (now (out .exit)) n (λ a. pick (not (carriesLosses (at (now (kinds .entry)) a))) (at (now (imports .entry)) a)) ⌝ }
 {
     let mut a = 0;
     while a < n {
         out[a] = of_generator(kinds[a], imports[a]);
+        a += 1;
+    }
+}
+
+// A small generator's exports; nothing of any other agent.
+fn small_exports(
+    kinds: &[u32; Agent::MOST],
+    exports: &[u32; Agent::MOST],
+    n: usize,
+    out: &mut [u32],
+)
+    requires { ⌜ (n ≤ mostAgents) × (n ≤ length (now out)) ⌝ }
+    ensures { λ _. ⌜ Filled 0 (now (out .entry)) (now (out .exit)) n (λ a. pick (isOutside (at (now (kinds .entry)) a)) (at (now (exports .entry)) a)) ⌝ }
+{
+    let mut a = 0;
+    while a < n {
+        out[a] = of_small(kinds[a], exports[a]);
         a += 1;
     }
 }
@@ -144,9 +172,9 @@ fn total(values: &[u32; Agent::MOST], n: usize) -> u32
 
 // A retailer that delivers more than it takes.
 fn is_over(kind: u32, import: u32, export: u32) -> bool
-    ensures { λ r. ⌜ r ≡ (isRetailer kind && ltb import export) ⌝ }
+    ensures { λ r. ⌜ r ≡ (carriesLosses kind && ltb import export) ⌝ }
 {
-    (kind == Agent::RETAILER) & (import < export)
+    rows::carries_losses(kind) & (import < export)
 }
 
 // The lowest such agent, or n.
@@ -157,7 +185,7 @@ fn first_over(
     n: usize,
 ) -> usize
     requires { ⌜ n ≤ mostAgents ⌝ }
-    ensures { λ r. ⌜ r ≡ first n (λ a. isRetailer (at (now (kinds .entry)) a) && ltb (at (now (imports .entry)) a) (at (now (exports .entry)) a)) ⌝ }
+    ensures { λ r. ⌜ r ≡ first n (λ a. carriesLosses (at (now (kinds .entry)) a) && ltb (at (now (imports .entry)) a) (at (now (exports .entry)) a)) ⌝ }
 {
     let mut a = 0;
     while a < n {
@@ -216,9 +244,11 @@ fn turned_away(verdict: Verdict) -> Balance
         kinds: [0u32; Agent::MOST],
         shares: [0u32; Agent::MOST],
         commercial: [0u32; Agent::MOST],
+        own: [0u32; Agent::MOST],
         imports: [0u32; Agent::MOST],
         losses: 0,
         demand: 0,
+        target: 0,
     }
 }
 
@@ -267,18 +297,25 @@ fn weigh_read(s: &[u8], c: Counts) -> Balance
     share::share(losses, &consumption[..n], &mut shares);
     let mut commercial = [0u32; Agent::MOST];
     added(&consumption, &shares, n, &mut commercial);
+    let mut taken = [0u32; Agent::MOST];
+    own_imports(&kinds, &imports, n, &mut taken);
+    let demand = total(&commercial, n) + total(&taken, n);
+    let mut injected = [0u32; Agent::MOST];
+    small_exports(&kinds, &exports, n, &mut injected);
     let mut own = [0u32; Agent::MOST];
-    own_imports(&kinds, &imports, n, &mut own);
-    let demand = total(&commercial, n) + total(&own, n);
+    added(&commercial, &injected, n, &mut own);
+    let target = demand - total(&injected, n);
     Balance {
         verdict,
         counts: c,
         kinds,
         shares,
         commercial,
-        imports: own,
+        own,
+        imports: taken,
         losses,
         demand,
+        target,
     }
 }
 

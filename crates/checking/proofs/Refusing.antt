@@ -17,7 +17,7 @@ use Rattle.sheet.specs.declared.Reading.{Reading}
 use Rattle.columns.specs.Columns.{columnsOf, hourOf}
 use Rattle.columns.proofs.Columns.{agents-long, plants-long, contracts-long}
 use Rattle.hour.specs.Sheet.{Sheet, agents, plants, contracts}
-use Rattle.hour.specs.Balance.{consumption, ownImport, losses, lossShare, commercial, hourDemand}
+use Rattle.hour.specs.Balance.{consumption, ownImport, losses, lossShare, commercial, dispatchDemand}
 use Rattle.hour.specs.Answer.{Lent, Roomy, balanceVerdict, coverVerdict, roomVerdict, hourVerdict}
 use Rattle.hour.proofs.Verdicts as verdicts
 use Rattle.balance.specs.Balances.{zeros, weighVerdict, Weighed}
@@ -55,20 +55,20 @@ module _ (bytes : List ℕ) (l : Lent) (b : Balance) (w : Weighed bytes b) where
       roomy (b .counts .agents) (b .counts .plants) (b .counts .contracts) (length (l .figures)) (length (l .money))
       (length (l .schedule)) (length (l .amounts))
 
-  verdict-is : judged (b .verdict) (b .demand) (sum (plants sheet) (at (sheet .available)))
+  verdict-is : judged (b .verdict) (b .target) (sum (plants sheet) (at (sheet .available)))
       (sum (plants sheet) (at (sheet .mustRun))) room ≡ sheetVerdict bytes l
   unfolding hourVerdict coverVerdict roomVerdict weighVerdict hourOf
   verdict-is = go (readVerdict bytes) (balanceVerdict (hourOf bytes)) refl refl
     where
       go : (u v : Verdict) → readVerdict bytes ≡ u → balanceVerdict (hourOf bytes) ≡ v
-          → judged (b .verdict) (b .demand) (sum (plants sheet) (at (sheet .available)))
+          → judged (b .verdict) (b .target) (sum (plants sheet) (at (sheet .available)))
           (sum (plants sheet) (at (sheet .mustRun))) room ≡ sheetVerdict bytes l
       go (Verdict.Refused q) v e f = rw (w .answer, e)
       go Verdict.Fine (Verdict.Refused q) e f = rw (w .answer, e, f)
       go Verdict.Fine Verdict.Fine e f =
           let fine : weighVerdict bytes ≡ Verdict.Fine = rw (e, f) in
           let c : b .counts ≡ countsOf bytes = weighed-counts bytes b w fine in
-          let d : b .demand ≡ hourDemand (hourOf bytes) = rw fine at (w .demand) in
+          let d : b .target ≡ dispatchDemand (hourOf bytes) = rw fine at (w .target) in
           rw (
             w .answer,
             fine,
@@ -82,7 +82,7 @@ module _ (bytes : List ℕ) (l : Lent) (b : Balance) (w : Weighed bytes b) where
           )
 
   module _ (price : ℕ) (v : Verdict)
-      (same : v ≡ judged (b .verdict) (b .demand) (sum (plants sheet) (at (sheet .available)))
+      (same : v ≡ judged (b .verdict) (b .target) (sum (plants sheet) (at (sheet .available)))
       (sum (plants sheet) (at (sheet .mustRun))) room) where
     tells : sheetVerdict bytes l ≡ v
     tells = sym (same ∙ verdict-is)
@@ -131,11 +131,12 @@ module _ (bytes : List ℕ) (l : Lent) (b : Balance) (w : Weighed bytes b) where
       count : agents (hourOf bytes) ≡ b .counts .agents
       count = rw (sym sheet-is) (agents-long bytes (b .counts))
 
-      -- commercial demand less share is consumption
-      pub weighs : (us : List ℕ) → Filled 0 zeros us (b .counts .agents) (λ a. at (b .commercial) a - at (b .shares) a)
-          → Weighs sheet (b .kinds) us (b .imports) (b .losses)
+      -- commercial demand less share is consumption; own energy less commercial demand is what a small generator delivers
+      pub weighs : (us js : List ℕ) → Filled 0 zeros us (b .counts .agents) (λ a. at (b .commercial) a - at (b .shares) a)
+          → Filled 0 zeros js (b .counts .agents) (λ a. at (b .own) a - at (b .commercial) a)
+          → Weighs sheet (b .kinds) us (b .imports) js (b .losses)
       unfolding commercial
-      weighs us f =
+      weighs us js f g =
           rw sheet-is
           (record {
             kinds = (rw weight at (w .kinds)) .done;
@@ -146,5 +147,11 @@ module _ (bytes : List ℕ) (l : Lent) (b : Balance) (w : Weighed bytes b) where
                   (rw weight at (w .shares)) .done a h,
                 );
             imports = (rw weight at (w .imports)) .done;
+            injects =
+                λ a h. g .done a (omega (arith, count)) ∙ omega (
+                  arith,
+                  (rw weight at (w .own)) .done a h,
+                  (rw weight at (w .commercial)) .done a h,
+                );
             losses = rw weight at (w .losses);
           })

@@ -16,18 +16,19 @@ use Rattle.sums.proofs.Lists.{zeros-at}
 use Rattle.sums.proofs.Cut.{cut}
 use Rattle.sums.proofs.Fill.{filled-front}
 use Rattle.rows.specs.Limits.{mostAgents, mostPrice}
-use Rattle.rows.specs.Rows.{isRetailer}
+use Rattle.rows.specs.Rows.{carriesLosses}
 use Rattle.refusals.specs.Refusals.{badShares, badSchedule, badPrice, badAmounts, badLines, refused}
 use Rattle.refusals.specs.declared.Verdict.{Verdict}
 use Rattle.merit.specs.Merit.{hourPrice}
 use Rattle.merit.proofs.Price.{price-most}
 use Rattle.hour.specs.Sheet.{Sheet, agents, plants, contracts, retails}
 use Rattle.hour.specs.Sound.{Sound}
-use Rattle.hour.specs.Balance.{imported, consumption, consumed, ownImport, entering, leaving, losses, demandBy}
+use Rattle.hour.specs.Balance.{imported, exported, consumption, consumed, ownImport, entering, leaving, losses, injected, smallExports, dispatchDemandBy}
 use Rattle.hour.specs.Lines.{ownBy, contractedBy}
 use Rattle.hour.specs.Answer.{Lent, shareIn, scheduleIn}
-use Rattle.hour.proofs.Bounds.{consumption-le, import-le, imported-le, leaving-le, entering-le, consumed-most}
-use Rattle.hour.proofs.Balance.{contracted-by-both, own-by-both}
+use Rattle.hour.proofs.Bounds.{consumption-le, import-le, injected-le, imported-le, exported-le, leaving-le, entering-le, consumed-most}
+use Rattle.hour.proofs.Demand.{small-metered}
+use Rattle.hour.proofs.Balance.{contracted-by-both, own-by-all}
 use Rattle.balance.specs.Balances.{zeros}
 use Rattle.statement.specs.Decide.{every}
 use Rattle.statement.specs.Hour.{hourGood}
@@ -49,11 +50,15 @@ losses-le : (h : Sheet) → losses h ≤ entering h
 unfolding losses
 losses-le h = omega arith
 
+entering-sum : (h : Sheet) → sum (agents h) (exported h) ≡ entering h
+unfolding entering
+entering-sum h = refl
+
 leaving-sum : (h : Sheet) → sum (agents h) (imported h) ≡ leaving h
 unfolding leaving
 leaving-sum h = refl
 
-module _ (h : Sheet) (ok : Sound h) (l : Lent) (ks us is : List ℕ) (x : ℕ) (w : Weighs h ks us is x) where
+module _ (h : Sheet) (ok : Sound h) (l : Lent) (ks us is js : List ℕ) (x : ℕ) (w : Weighs h ks us is js x) where
   -- all that is consumed
   pub used-sum : sum (agents h) (at us) ≡ consumed h
   unfolding consumed
@@ -63,7 +68,7 @@ module _ (h : Sheet) (ok : Sound h) (l : Lent) (ks us is : List ℕ) (x : ℕ) (
   used-fits = omega (arith, used-sum, consumed-most h ok)
 
   pub shares-are : (n t : ℕ) → agents h ≡ n → t ≡ sum n (at us)
-      → (every n (λ a. shareTest (isRetailer (at ks a)) x (at us a) t (shareIn l a)) && eqb (sum n (shareIn l)) x)
+      → (every n (λ a. shareTest (carriesLosses (at ks a)) x (at us a) t (shareIn l a)) && eqb (sum n (shareIn l)) x)
       ≡ sharesGood h l
   unfolding sharesGood shareGood retails
   shares-are n t en e =
@@ -88,7 +93,7 @@ module _ (h : Sheet) (ok : Sound h) (l : Lent) (ks us is : List ℕ) (x : ℕ) (
           entering-le h ok,
         )
 
-    pub demands-are : (ds : List ℕ) → Filled 0 zeros ds (agents h) (λ a. at us a + shareIn l a) → Demands h l ks ds is
+    pub demands-are : (ds : List ℕ) → Filled 0 zeros ds (agents h) (λ a. at us a + shareIn l a) → Demands h l ks ds is js
     demands-are ds f =
         record {
           kinds = w .kinds;
@@ -113,6 +118,7 @@ module _ (h : Sheet) (ok : Sound h) (l : Lent) (ks us is : List ℕ) (x : ℕ) (
                 leaving-sum h,
                 leaving-le h ok,
               );
+          injects = w .injects;
         }
 
     pub points-on : (p : ℕ) → pointsVerdict h p l ≡ tradeVerdict h p l
@@ -124,7 +130,7 @@ module _ (h : Sheet) (ok : Sound h) (l : Lent) (ks us is : List ℕ) (x : ℕ) (
   points-21 p e = rw e
 
 -- ---- points 22 to 25
-module _ (h : Sheet) (ok : Sound h) (l : Lent) (ks ds is : List ℕ) (w : Demands h l ks ds is) where
+module _ (h : Sheet) (ok : Sound h) (l : Lent) (ks ds is js : List ℕ) (w : Demands h l ks ds is js) where
   pub demand-sum : sum (agents h) (at ds) ≡ sum (agents h) (demandIn h l)
   demand-sum = sum-eq (agents h) (at ds) (demandIn h l) (w .demands)
 
@@ -137,26 +143,42 @@ module _ (h : Sheet) (ok : Sound h) (l : Lent) (ks ds is : List ℕ) (w : Demand
   pub generators-fit : sum (agents h) (at is) ≤ room 1
   generators-fit = omega (arith, import-sum, w .own)
 
-  -- the demand is that with their shares
-  pub demand-is : (x y : ℕ)
+  pub small-sum : sum (agents h) (at js) ≡ smallExports h
+  small-sum = sum-eq (agents h) (at js) (injected h) (w .injects) ∙ small-metered h ok
+
+  pub smalls-fit : sum (agents h) (at js) ≤ room 1
+  smalls-fit =
+      omega (
+        arith,
+        sum-eq (agents h) (at js) (injected h) (w .injects),
+        sum-le (agents h) (injected h) (exported h) (λ a m. injected-le h a),
+        entering-sum h,
+        entering-le h ok,
+      )
+
+  -- what dispatch has to meet is that of the demand with their shares
+  pub target-is : (x y z : ℕ)
       → x ≡ sum (agents h) (at ds)
       → y ≡ sum (agents h) (at is)
-      → x + y ≡ demandBy h (demandIn h l)
-  demand-is x y e f = omega (arith, demand-sum, import-sum, sum-add (agents h) (demandIn h l) (ownImport h))
+      → z ≡ sum (agents h) (at js)
+      → x + y - z ≡ dispatchDemandBy h (demandIn h l)
+  target-is x y z e f g =
+      omega (arith, demand-sum, import-sum, small-sum, sum-add (agents h) (demandIn h l) (ownImport h))
 
-  -- cells for own energy that hold the demands, and cells that hold nothing
-  pub addable : (os : List ℕ) → Filled 0 zeros os (agents h) (at ds) → Addable os
+  -- cells for own energy that hold what no schedule gives, and cells that hold nothing
+  pub addable : (os : List ℕ) → Filled 0 zeros os (agents h) (λ a. at ds a + at js a) → Addable os
   addable os f = record { cells = f .long; small = λ a m. go a (cut a (agents h)) }
     where
-      go : (a : ℕ) → (a < agents h) ⊎ (agents h ≤ a) → at os a ≤ room 1
-      go a (inl m) = omega (arith, f .done a m, w .small a m)
+      go : (a : ℕ) → (a < agents h) ⊎ (agents h ≤ a) → at os a ≤ room 2
+      go a (inl m) =
+          omega (arith, f .done a m, w .small a m, w .injects a m, injected-le h a, exported-le h ok a)
       go a (inr m) = omega (arith, f .kept a m, zeros-at mostAgents a)
 
   pub none-added : Addable zeros
   none-added = record { cells = refl; small = λ a m. omega (arith, zeros-at mostAgents a) }
 
-  module _ (d : ℕ) (os os₂ : List ℕ) (v : Run) (e : d ≡ demandBy h (demandIn h l))
-      (f : Filled 0 zeros os (agents h) (at ds)) (r : Scheduled h d (l .schedule) os v os₂) where
+  module _ (d : ℕ) (os os₂ : List ℕ) (v : Run) (e : d ≡ dispatchDemandBy h (demandIn h l))
+      (f : Filled 0 zeros os (agents h) (λ a. at ds a + at js a)) (r : Scheduled h d (l .schedule) os v os₂) where
     pub schedule-are : v .good ≡ scheduleGood h l
     unfolding scheduleTest scheduleGood dearest
     schedule-are = r .good ∙ rw e
@@ -175,8 +197,8 @@ module _ (h : Sheet) (ok : Sound h) (l : Lent) (ks ds is : List ℕ) (w : Demand
 
     own-are : (a : ℕ) → a < agents h → at os₂ a ≡ ownBy h (basisIn h l) a
     own-are a m =
-        r .own a (omega (arith, ok .few .agents)) ∙ omega (arith, f .done a m, w .demands a m)
-        ∙ own-by-both h ok (basisIn h l) (w .idle) a m
+        r .own a (omega (arith, ok .few .agents)) ∙ omega (arith, f .done a m, w .demands a m, w .injects a m)
+        ∙ own-by-all h ok (basisIn h l) (w .idle) a m
 
     module _ (n : ℕ) (hs : List ℕ) (b : Bool) (en : agents h ≡ n) (cells : length ds ≡ mostAgents)
         (g : Agreed h (take n ds) (l .amounts) zeros b hs) where

@@ -9,12 +9,12 @@ use lib.ListN.{length, getD}
 use Rattle.sums.specs.Sums.{sum, peak, pick, keyed}
 use Rattle.sums.specs.Lists.{at}
 use Rattle.rows.specs.Limits.{mostAgents, mostPlants, mostContracts}
-use Rattle.rows.specs.Rows.{isRetailer}
+use Rattle.rows.specs.Rows.{carriesLosses}
 use Rattle.merit.specs.Merit.{hourPrice}
 use Rattle.refusals.specs.Refusals.{noRoom, badSchedule, badPrice, badAmounts, badLines, refusedUnless, firstOf}
 use Rattle.refusals.specs.declared.Verdict.{Verdict}
 use Rattle.hour.specs.Sheet.{Sheet, agents, plants, contracts, retails}
-use Rattle.hour.specs.Balance.{consumption, ownImport, losses}
+use Rattle.hour.specs.Balance.{consumption, ownImport, losses, injected}
 use Rattle.hour.specs.Lines.{moneyOf}
 use Rattle.hour.specs.Answer.{Lent, coverOf}
 use Rattle.statement.specs.Decide.{every}
@@ -27,7 +27,7 @@ use Rattle.checking.specs.declared.plants.Run.{Run}
 -- ---- sums by agent, added to what stands in their cells: nothing overflows
 pub record Addable (before : List ℕ) : Type 0 where
   pub cells : length before ≡ mostAgents
-  pub small : (a : ℕ) → a < mostAgents → at before a ≤ room 1
+  pub small : (a : ℕ) → a < mostAgents → at before a ≤ room 2
 
 pub record Countable (keys values before : List ℕ) : Type 0 where
   pub few : length keys ≤ mostContracts
@@ -91,8 +91,8 @@ pub record Agreed (h : Sheet) (ds amounts before : List ℕ) (r : Bool) (after :
 -- ---- a line, from the agent's kind and what it has, against the stated cells 1 to 5 and the money
 abbrev pub lineTest : (kind own import contracted price c1 c2 c3 c4 c5 : ℕ) → ℤ → Bool
 lineTest k o i h p c1 c2 c3 c4 c5 m =
-    eqb c1 o && eqb c2 i && eqb c3 h && eqb c4 (cond (isRetailer k) (c1 - c3) (c3 - c1 + i))
-    && eqb c5 (cond (isRetailer k) (c3 - c1) (c1 - c3))
+    eqb c1 o && eqb c2 i && eqb c3 h && eqb c4 (cond (carriesLosses k) (c1 - c3) (c3 - c1 + i))
+    && eqb c5 (cond (carriesLosses k) (c3 - c1) (c1 - c3))
     && sameMoney m (moneyOf c5 c4 p)
 
 abbrev pub lineAt : (kinds own imports held : List ℕ) → (price : ℕ) → (figures : List ℕ) → List ℤ → ℕ → Bool
@@ -100,15 +100,17 @@ lineAt ks os is hs p f m a =
     lineTest (at ks a) (at os a) (at is a) (at hs a) p (at f (6 * a + 1)) (at f (6 * a + 2)) (at f (6 * a + 3))
     (at f (6 * a + 4)) (at f (6 * a + 5)) (getD m a (pos 0))
 
--- ---- the agents of the sheet h, as weighing has them: kinds, consumptions and own imports, and the losses
-pub record Weighs (h : Sheet) (ks us is : List ℕ) (x : ℕ) : Type 0 where
+-- ---- the agents of the sheet h, as weighing has them: kinds, consumptions, own imports and what small generators deliver, and the
+-- losses
+pub record Weighs (h : Sheet) (ks us is js : List ℕ) (x : ℕ) : Type 0 where
   pub kinds : (a : ℕ) → a < agents h → at ks a ≡ at (h .kinds) a
   pub used : (a : ℕ) → a < agents h → at us a ≡ consumption h a
   pub imports : (a : ℕ) → a < agents h → at is a ≡ ownImport h a
+  pub injects : (a : ℕ) → a < agents h → at js a ≡ injected h a
   pub losses : x ≡ losses h
 
 -- the same with the demands that their shares make
-pub record Demands (h : Sheet) (l : Lent) (ks ds is : List ℕ) : Type 0 where
+pub record Demands (h : Sheet) (l : Lent) (ks ds is js : List ℕ) : Type 0 where
   pub kinds : (a : ℕ) → a < agents h → at ks a ≡ at (h .kinds) a
   pub demands : (a : ℕ) → a < agents h → at ds a ≡ demandIn h l a
   pub small : (a : ℕ) → a < agents h → at ds a ≤ room 1
@@ -116,6 +118,7 @@ pub record Demands (h : Sheet) (l : Lent) (ks ds is : List ℕ) : Type 0 where
   pub idle : (a : ℕ) → a < agents h → retails h a ≡ false → demandIn h l a ≡ 0
   pub imports : (a : ℕ) → a < agents h → at is a ≡ ownImport h a
   pub own : sum (agents h) (ownImport h) ≤ room 1
+  pub injects : (a : ℕ) → a < agents h → at js a ≡ injected h a
 
 -- points 22 to 25
 unfoldable pub tradeVerdict : Sheet → (price : ℕ) → Lent → Verdict

@@ -57,18 +57,18 @@ fn offered(bytes: &[u8], c: Counts) -> Reach
 }
 
 // Refusals 1 to 9 as weighing has them, then 10, then 13, then 11.
-pub(crate) fn judge(bytes: &[u8], c: Counts, weighed: Verdict, demand: u32, room: bool) -> Verdict
+pub(crate) fn judge(bytes: &[u8], c: Counts, weighed: Verdict, target: u32, room: bool) -> Verdict
     requires { ⌜ (weighed ≡ Verdict.Fine → readOf (now bytes) ≡ Reading.Accepted c) ⌝ }
-    ensures { λ r. ⌜ r ≡ judged weighed demand (sum (plants (columnsOf (now (bytes .entry)) c)) (at (columnsOf (now (bytes .entry)) c .available))) (sum (plants (columnsOf (now (bytes .entry)) c)) (at (columnsOf (now (bytes .entry)) c .mustRun))) room ⌝ }
+    ensures { λ r. ⌜ r ≡ judged weighed target (sum (plants (columnsOf (now (bytes .entry)) c)) (at (columnsOf (now (bytes .entry)) c .available))) (sum (plants (columnsOf (now (bytes .entry)) c)) (at (columnsOf (now (bytes .entry)) c .mustRun))) room ⌝ }
 {
     let Verdict::Fine = weighed else {
         return weighed;
     };
     let offer = offered(bytes, c);
-    if offer.available < demand {
+    if offer.available < target {
         return refusals::refuse(Refusal::UNCOVERED, 0);
     }
-    if demand < offer.must {
+    if target < offer.must {
         return refusals::refuse(Refusal::OVERRUN, 0);
     }
     if room {

@@ -32,6 +32,7 @@ fn trades(
     kinds: &[u32; Agent::MOST],
     demands: [u32; Agent::MOST],
     imports: &[u32; Agent::MOST],
+    injected: &[u32; Agent::MOST],
     price: u32,
     figures: &[u32],
     money: &[i64],
@@ -39,16 +40,18 @@ fn trades(
     amounts: &[u32],
 ) -> Verdict
     requires { ⌜ readOf (now bytes) ≡ Reading.Accepted c ⌝ }
-    requires { ⌜ Roomy (columnsOf (now bytes) c) (stated (now figures) (now money) (now schedule) (now amounts)) × Demands (columnsOf (now bytes) c) (stated (now figures) (now money) (now schedule) (now amounts)) (now kinds) demands (now imports) × (length demands ≡ mostAgents) ⌝ }
+    requires { ⌜ Roomy (columnsOf (now bytes) c) (stated (now figures) (now money) (now schedule) (now amounts)) × Demands (columnsOf (now bytes) c) (stated (now figures) (now money) (now schedule) (now amounts)) (now kinds) demands (now imports) (now injected) × (length demands ≡ mostAgents) ⌝ }
     ensures { λ r. ⌜ r ≡ tradeVerdict (columnsOf (now (bytes .entry)) c) price (stated (now (figures .entry)) (now (money .entry)) (now (schedule .entry)) (now (amounts .entry))) ⌝ }
 {
     let n = c.agents;
     let retailers = shares::total(&demands, n);
     let generators = shares::total(imports, n);
     let demand = retailers + generators;
+    let small = shares::total(injected, n);
+    let target = numbers::less_wide(demand, small);
     let mut own = [0u64; Agent::MOST];
-    shares::widen(&demands, n, &mut own);
-    let v = plants::judge(bytes, c, demand, schedule, &mut own);
+    shares::together(&demands, injected, n, &mut own);
+    let v = plants::judge(bytes, c, target, schedule, &mut own);
     if !v.good {
         return refusals::refuse(Refusal::SCHEDULE, 0);
     }
@@ -73,6 +76,7 @@ fn points(
     kinds: &[u32; Agent::MOST],
     used: &[u32; Agent::MOST],
     imports: &[u32; Agent::MOST],
+    injected: &[u32; Agent::MOST],
     losses: u32,
     price: u32,
     figures: &[u32],
@@ -81,7 +85,7 @@ fn points(
     amounts: &[u32],
 ) -> Verdict
     requires { ⌜ readOf (now bytes) ≡ Reading.Accepted c ⌝ }
-    requires { ⌜ Roomy (columnsOf (now bytes) c) (stated (now figures) (now money) (now schedule) (now amounts)) × Weighs (columnsOf (now bytes) c) (now kinds) (now used) (now imports) losses ⌝ }
+    requires { ⌜ Roomy (columnsOf (now bytes) c) (stated (now figures) (now money) (now schedule) (now amounts)) × Weighs (columnsOf (now bytes) c) (now kinds) (now used) (now imports) (now injected) losses ⌝ }
     ensures { λ r. ⌜ r ≡ pointsVerdict (columnsOf (now (bytes .entry)) c) price (stated (now (figures .entry)) (now (money .entry)) (now (schedule .entry)) (now (amounts .entry))) ⌝ }
 {
     let n = c.agents;
@@ -97,6 +101,7 @@ fn points(
         kinds,
         demands,
         imports,
+        injected,
         price,
         figures,
         money,
@@ -120,8 +125,8 @@ pub fn check(
     let c = b.counts;
     let room = admitted::has_room(c, figures.len(), money.len(), schedule.len(), amounts.len());
     let weighed = b.verdict;
-    let demand = b.demand;
-    let verdict = admitted::judge(bytes, c, weighed, demand, room);
+    let target = b.target;
+    let verdict = admitted::judge(bytes, c, weighed, target, room);
     let Verdict::Fine = verdict else {
         return verdict;
     };
@@ -129,14 +134,18 @@ pub fn check(
     let imports = b.imports;
     let commercial = b.commercial;
     let ours = b.shares;
+    let own = b.own;
     let mut used = [0u32; Agent::MOST];
-    shares::consumptions(&commercial, &ours, c.agents, &mut used);
+    shares::differences(&commercial, &ours, c.agents, &mut used);
+    let mut injected = [0u32; Agent::MOST];
+    shares::differences(&own, &commercial, c.agents, &mut injected);
     points(
         bytes,
         c,
         &kinds,
         &used,
         &imports,
+        &injected,
         b.losses,
         price,
         figures,

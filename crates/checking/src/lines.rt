@@ -7,7 +7,7 @@ ghost use lib.IntN.{pos};
 ghost use lib.ListN.{length, getD};
 ghost use Rattle.sums.specs.Lists.{at};
 ghost use Rattle.rows.specs.Limits.{mostAgents, mostPrice};
-ghost use Rattle.rows.specs.Rows.{isRetailer};
+ghost use Rattle.rows.specs.Rows.{carriesLosses};
 ghost use Rattle.hour.specs.Lines.{moneyOf};
 ghost use Rattle.statement.specs.Decide.{every};
 ghost use Rattle.statement.specs.Tests.{sameMoney};
@@ -15,9 +15,9 @@ ghost use Rattle.checking.specs.Parts.{lineTest, lineAt};
 
 // A retailer buys the demand that contracts don't cover; a generator buys its shortfall, and its own import besides.
 fn bought(kind: u32, own: u32, import: u32, contracted: u32) -> u64
-    ensures { λ r. ⌜ r ≡ cond (isRetailer kind) (own - contracted) (contracted - own + import) ⌝ }
+    ensures { λ r. ⌜ r ≡ cond (carriesLosses kind) (own - contracted) (contracted - own + import) ⌝ }
 {
-    if kind == Agent::RETAILER {
+    if rows::carries_losses(kind) {
         sums::wide(sums::less(own, contracted))
     } else {
         sums::wide(sums::less(contracted, own)) + sums::wide(import)
@@ -26,9 +26,9 @@ fn bought(kind: u32, own: u32, import: u32, contracted: u32) -> u64
 
 // A retailer sells its contracted excess, a generator what it makes beyond its contracts.
 fn sold(kind: u32, own: u32, contracted: u32) -> u32
-    ensures { λ r. ⌜ r ≡ cond (isRetailer kind) (contracted - own) (own - contracted) ⌝ }
+    ensures { λ r. ⌜ r ≡ cond (carriesLosses kind) (contracted - own) (own - contracted) ⌝ }
 {
-    if kind == Agent::RETAILER {
+    if rows::carries_losses(kind) {
         sums::less(contracted, own)
     } else {
         sums::less(own, contracted)

@@ -1,6 +1,6 @@
 // Small numbers' leaves of the tests, each with its whole meaning in its contract.
 ghost use mathlib.Core.Path.{_≡_};
-ghost use Prim.Native.Nat.{_-_, _*_, min, max};
+ghost use Prim.Native.Nat.{_+_, _-_, _*_, min, max};
 ghost use Rattle.statement.specs.Decide.{isNear};
 
 pub(crate) fn higher(x: u64, y: u64) -> u64
@@ -19,6 +19,12 @@ pub(crate) fn less_wide(x: u64, y: u64) -> u64
     ensures { λ r. ⌜ r ≡ x - y ⌝ }
 {
     if x < y { 0 } else { x - y }
+}
+
+pub(crate) fn plus(x: u32, y: u32) -> u64
+    ensures { λ r. ⌜ r ≡ x + y ⌝ }
+{
+    (x as u64) + (y as u64)
 }
 
 fn product(x: u32, y: u32) -> u64

@@ -9,24 +9,24 @@ ghost use lib.ListN.{length};
 ghost use Rattle.sums.specs.Sums.{sum};
 ghost use Rattle.sums.specs.Lists.{at, Filled};
 ghost use Rattle.rows.specs.Limits.{mostAgents};
-ghost use Rattle.rows.specs.Rows.{isRetailer};
+ghost use Rattle.rows.specs.Rows.{carriesLosses};
 ghost use Rattle.statement.specs.Decide.{every};
 ghost use Rattle.statement.specs.Tests.{shareTest};
 ghost use Rattle.checking.specs.Passes.{room};
 
-// The consumptions of n agents: their commercial demand less their share, as weighing has them.
-pub(crate) fn consumptions(
-    commercial: &[u32; Agent::MOST],
-    shares: &[u32; Agent::MOST],
+// One column of n agents less another.
+pub(crate) fn differences(
+    xs: &[u32; Agent::MOST],
+    ys: &[u32; Agent::MOST],
     n: usize,
     out: &mut [u32],
 )
     requires { ⌜ (n ≤ mostAgents) × (n ≤ length (now out)) ⌝ }
-    ensures { λ _. ⌜ Filled 0 (now (out .entry)) (now (out .exit)) n (λ a. at (now (commercial .entry)) a - at (now (shares .entry)) a) ⌝ }
+    ensures { λ _. ⌜ Filled 0 (now (out .entry)) (now (out .exit)) n (λ a. at (now (xs .entry)) a - at (now (ys .entry)) a) ⌝ }
 {
     let mut a = 0;
     while a < n {
-        out[a] = sums::less(commercial[a], shares[a]);
+        out[a] = sums::less(xs[a], ys[a]);
         a += 1;
     }
 }
@@ -47,9 +47,9 @@ pub(crate) fn total(values: &[u32; Agent::MOST], n: usize) -> u64
 
 // A retailer's share is near its proportion; a generator has none, and nobody has where nothing is consumed.
 fn share_good(kind: u32, losses: u32, used: u32, consumed: u64, share: u32) -> bool
-    ensures { λ r. ⌜ r ≡ shareTest (isRetailer kind) losses used consumed share ⌝ }
+    ensures { λ r. ⌜ r ≡ shareTest (carriesLosses kind) losses used consumed share ⌝ }
 {
-    if (kind == Agent::RETAILER) & (0 < consumed) {
+    if rows::carries_losses(kind) & (0 < consumed) {
         return numbers::near(losses, used, consumed, share);
     }
     share == 0
@@ -65,7 +65,7 @@ pub(crate) fn good(
     figures: &[u32],
 ) -> bool
     requires { ⌜ (n ≤ mostAgents) × (6 * n ≤ length (now figures)) ⌝ }
-    ensures { λ r. ⌜ r ≡ (every n (λ a. shareTest (isRetailer (at (now (kinds .entry)) a)) losses (at (now (used .entry)) a) consumed (at (now (figures .entry)) (6 * a))) && eqb (sum n (λ a. at (now (figures .entry)) (6 * a))) losses) ⌝ }
+    ensures { λ r. ⌜ r ≡ (every n (λ a. shareTest (carriesLosses (at (now (kinds .entry)) a)) losses (at (now (used .entry)) a) consumed (at (now (figures .entry)) (6 * a))) && eqb (sum n (λ a. at (now (figures .entry)) (6 * a))) losses) ⌝ }
 {
     let mut fine = true;
     let mut sum = 0;
@@ -93,14 +93,14 @@ pub(crate) fn demands(used: &[u32; Agent::MOST], figures: &[u32], n: usize, out:
     }
 }
 
-// The same column, 64 bits wide.
-pub(crate) fn widen(values: &[u32; Agent::MOST], n: usize, out: &mut [u64])
+// Two columns added, 64 bits wide.
+pub(crate) fn together(xs: &[u32; Agent::MOST], ys: &[u32; Agent::MOST], n: usize, out: &mut [u64])
     requires { ⌜ (n ≤ mostAgents) × (n ≤ length (now out)) ⌝ }
-    ensures { λ _. ⌜ Filled 0 (now (out .entry)) (now (out .exit)) n (at (now (values .entry))) ⌝ }
+    ensures { λ _. ⌜ Filled 0 (now (out .entry)) (now (out .exit)) n (λ a. at (now (xs .entry)) a + at (now (ys .entry)) a) ⌝ }
 {
     let mut a = 0;
     while a < n {
-        out[a] = sums::wide(values[a]);
+        out[a] = numbers::plus(xs[a], ys[a]);
         a += 1;
     }
 }

@@ -1,21 +1,18 @@
 -- The columns hold what the rows say, and those of an accepted sheet are sound. Assumes nothing.
 use Prim.Native.Nat.{ℕ, _<_}
 use native.Mathlib.Omega.{arith}
-use mathlib.Core.Bool.{true, false, false≢true}
 use mathlib.Core.List.{List}
-use mathlib.Core.Logic.{_⊎_, inl, inr}
 use mathlib.Core.Path.{_≡_, ap, _∙_, sym}
-use borrow.Author.Tests.{eq-eqb, ne-eqb}
 use Rattle.sums.specs.Lists.{at}
 use Rattle.sums.proofs.Lists.{length-listTo, getD-listTo}
-use Rattle.rows.specs.Rows.{isRetailer}
-use Rattle.rows.proofs.Good.{agent-kind}
+use Rattle.rows.specs.Rows.{carriesLosses, isOutside}
+use Rattle.rows.proofs.ByKind.{holder-carries-none, holder-inside, seller-carries-none, buyer-carries}
 use Rattle.sheet.specs.Reading.{kindAt, readOf}
 use Rattle.sheet.specs.Asking.{agentAt, boundaryAt, plantAt, contractAt}
 use Rattle.sheet.specs.declared.Counts.{Counts}
 use Rattle.sheet.specs.declared.Reading.{Reading}
 use Rattle.sheet.proofs.Accepted.{kind-of, accepted-few, accepted-boundary, accepted-plant, accepted-contract}
-use Rattle.hour.specs.Sheet.{agents, boundaries, plants, contracts, retails}
+use Rattle.hour.specs.Sheet.{agents, boundaries, plants, contracts, retails, outside}
 use Rattle.hour.specs.Sound.{Sound, BoundarySound, PlantSound, ContractSound}
 use Rattle.columns.specs.Columns.{columnsOf}
 
@@ -102,24 +99,17 @@ module _ (s : List ℕ) (c : Counts) where
     quantity-at = getD-listTo 0 _ _ j l
 
   -- ---- kinds of agents
-  pub retails-is : (a : ℕ) → a < c .agents → retails (columnsOf s c) a ≡ isRetailer (kindAt s c a)
-  unfolding retails
-  retails-is a l = ap isRetailer (kind-at a l ∙ sym (kind-of s c a l))
+  module _ (x a : ℕ) (p : x ≡ a) (l : a < c .agents) where
+    kind-is : at (columnsOf s c .kinds) x ≡ kindAt s c a
+    kind-is = ap (at (columnsOf s c .kinds)) p ∙ kind-at a l ∙ sym (kind-of s c a l)
 
-  retailer-is : (x a : ℕ) → x ≡ a → a < c .agents → kindAt s c a ≡ 1 → retails (columnsOf s c) x ≡ true
-  retailer-is x a p l e = ap (retails (columnsOf s c)) p ∙ retails-is a l ∙ eq-eqb _ _ e
+    retails-is : retails (columnsOf s c) x ≡ carriesLosses (kindAt s c a)
+    unfolding retails
+    retails-is = ap carriesLosses kind-is
 
-  generator-is : (x a : ℕ) → x ≡ a → a < c .agents → kindAt s c a ≡ 2 → retails (columnsOf s c) x ≡ false
-  generator-is x a p l e = ap (retails (columnsOf s c)) p ∙ retails-is a l ∙ ne-eqb (kindAt s c a) 1 (λ q. omega arith)
-
-  generator-kind : (x a : ℕ)
-      → x ≡ a
-      → a < c .agents
-      → (kindAt s c a ≡ 1) ⊎ (kindAt s c a ≡ 2)
-      → retails (columnsOf s c) x ≡ false
-      → kindAt s c a ≡ 2
-  generator-kind x a p l (inl e) g = absurd (false≢true (sym g ∙ retailer-is x a p l e))
-  generator-kind x a p l (inr e) g = e
+    outside-is : outside (columnsOf s c) x ≡ isOutside (kindAt s c a)
+    unfolding outside
+    outside-is = ap isOutside kind-is
 
   -- ---- the columns of an accepted sheet are sound
   module _ (e : readOf s ≡ Reading.Accepted c) where
@@ -136,7 +126,7 @@ module _ (s : List ℕ) (c : Counts) where
               λ g. omega (
                 arith,
                 factor-at j l,
-                r .fits .unreferred (generator-kind _ _ (owner-at j l) (r .there) (agent-kind _ (r .fits .known)) g),
+                r .fits .unreferred (sym (retails-is _ _ (owner-at j l) (r .there)) ∙ g),
               );
         }
 
@@ -146,7 +136,8 @@ module _ (s : List ℕ) (c : Counts) where
         let r = accepted-plant s c e i l in
         record {
           there = omega (arith, holder-at i l, agents-long, r .there);
-          generator = generator-is _ _ (holder-at i l) (r .there) (r .fits .generator);
+          generator = retails-is _ _ (holder-at i l) (r .there) ∙ holder-carries-none (kindAt s c _) (r .fits .holder);
+          inside = outside-is _ _ (holder-at i l) (r .there) ∙ holder-inside (kindAt s c _) (r .fits .holder);
           flag = omega (arith, flag-at i l, r .fits .flag);
           offer = omega (arith, offer-at i l, r .fits .price);
           available = omega (arith, available-at i l, r .fits .availability);
@@ -159,9 +150,9 @@ module _ (s : List ℕ) (c : Counts) where
         let r = accepted-contract s c e j l in
         record {
           sellerThere = omega (arith, seller-at j l, agents-long, r .sellerThere);
-          generator = generator-is _ _ (seller-at j l) (r .sellerThere) (r .fits .generator);
+          generator = retails-is _ _ (seller-at j l) (r .sellerThere) ∙ seller-carries-none (kindAt s c _) (r .fits .sells);
           buyerThere = omega (arith, buyer-at j l, agents-long, r .buyerThere);
-          retailer = retailer-is _ _ (buyer-at j l) (r .buyerThere) (r .fits .retailer);
+          retailer = retails-is _ _ (buyer-at j l) (r .buyerThere) ∙ buyer-carries (kindAt s c _) (r .fits .buys);
           least = omega (arith, deal-at j l, r .fits .least);
           most = omega (arith, deal-at j l, r .fits .most);
           price = omega (arith, price-at j l, r .fits .price);

@@ -17,7 +17,7 @@ use Rattle.sheet.specs.Reading.{boundaryStart, plantStart, lengthGood, countsOf
 use Rattle.sheet.specs.Asking.{agentAt, boundaryAt, plantAt, contractAt}
 use Rattle.sheet.specs.declared.Counts.{Counts}
 use Rattle.hour.specs.Sheet.{Sheet, agents, plants, contracts}
-use Rattle.hour.specs.Balance.{consumed, entering, leaving, losses, hourDemand}
+use Rattle.hour.specs.Balance.{consumed, entering, leaving, losses, dispatchDemand}
 use Rattle.hour.specs.Lines.{cellsPerAgent}
 use Rattle.hour.specs.Answer.{Lent, firstOver, balanceVerdict, coverVerdict, roomVerdict}
 
@@ -130,10 +130,10 @@ cover-between s =
     )
   where
     enough : Bool
-    enough = leb (hourDemand s) (sum (plants s) (at (s .available)))
+    enough = leb (dispatchDemand s) (sum (plants s) (at (s .available)))
 
     runs : Bool
-    runs = leb (sum (plants s) (at (s .mustRun))) (hourDemand s)
+    runs = leb (sum (plants s) (at (s .mustRun))) (dispatchDemand s)
 
 -- the room with 11
 pub room-between : (s : Sheet) (l : Lent) → Between 11 11 (roomVerdict s l)

@@ -19,9 +19,9 @@ use Rattle.deals.specs.Deals.{count, amountAt, amountsOf}
 use Rattle.deals.specs.Hour.{Rows, ownTo, ownCount, ownOf, hourAmount}
 use Rattle.deals.proofs.Own.{own-at, own-list, own-sum, count-own}
 use Rattle.deals.proofs.Hours.{hour-is, bought-own}
-use Rattle.hour.specs.Sheet.{Sheet, agents, plants, contracts, retails}
+use Rattle.hour.specs.Sheet.{Sheet, agents, plants, contracts, retails, outside}
 use Rattle.hour.specs.Sound.{Sound}
-use Rattle.hour.specs.Balance.{imported, exported, consumption, ownImport, entering, leaving, losses, consumptions, lossShare, commercial, demands, hourDemand}
+use Rattle.hour.specs.Balance.{imported, exported, consumption, ownImport, entering, leaving, losses, consumptions, lossShare, commercial, demands, hourDemand, injected, smallExports, dispatchDemand}
 use Rattle.hour.specs.Lines.{scheduled, bolsaPrice, amount, own, contracted, bought, sold, money, cellsPerAgent, figure}
 use Rattle.refusals.specs.declared.Verdict.{Verdict}
 use Rattle.hour.specs.Answer.{summaryOf}
@@ -48,8 +48,8 @@ module _ (s t : Sheet) (e : Alike s t) where
   demands-same = rw (e .kinds, e .owners, e .factors, e .imports, e .exports)
 
   pub price-same : bolsaPrice s ≡ bolsaPrice t
-  unfolding bolsaPrice scheduled hourDemand commercial ownImport lossShare consumptions consumption losses entering
-      leaving imported exported retails
+  unfolding bolsaPrice scheduled dispatchDemand smallExports outside commercial ownImport lossShare consumptions
+      consumption losses entering leaving imported exported retails
   price-same =
       rw (
         e .kinds,
@@ -78,8 +78,8 @@ module _ (s t : Sheet) (e : Alike s t) where
   first-same q r eq er = rw (eq, er) (price-same, demand-same, losses-same)
 
   pub own-same : (a : ℕ) → own s a ≡ own t a
-  unfolding own scheduled hourDemand commercial ownImport lossShare consumptions consumption losses entering leaving
-      imported exported retails
+  unfolding own scheduled injected dispatchDemand smallExports outside commercial ownImport lossShare consumptions
+      consumption losses entering leaving imported exported retails
   own-same a =
       rw (e .kinds, e .owners, e .factors, e .imports, e .exports, e .holders, e .mustRun, e .offers, e .available)
 

@@ -13,7 +13,6 @@ use Rattle.refusals.proofs.Fine.{not-fine, else-fine, fine-parts, both-fine}
 use Rattle.sheet.specs.Reading.{readVerdict}
 use Rattle.columns.specs.Columns.{hourOf}
 use Rattle.hour.specs.Sound.{Sound}
-use Rattle.hour.specs.Balance.{hourDemand}
 use Rattle.hour.specs.Lines.{bolsaPrice}
 use Rattle.hour.specs.Signed.{signedSum}
 use Rattle.hour.specs.Answer.{Lent, boughtIn, soldIn, moneyIn, scheduleIn, balanceVerdict, coverVerdict, roomVerdict, hourVerdict}
@@ -22,11 +21,11 @@ use Rattle.hour.proofs.Verdicts.{Balanced, balanced, roomy, room-fine}
 use Rattle.statement.specs.Points.{Holds}
 use Rattle.statement.specs.Tests.{pointsVerdict}
 use Rattle.statement.proofs.Points.{points-exact}
-use Rattle.statement.proofs.Held.{demand-same, least-cost, held-balanced, held-money}
+use Rattle.statement.proofs.Held.{dispatch-same, least-cost, held-balanced, held-money}
 use Rattle.statement.proofs.Settled.{ours-hold}
 use Rattle.checking.specs.Check.{checkVerdict}
 use Rattle.settle.specs.Settled.{verdictOf, Settled}
-use Rattle.duties.specs.Result.{agentsOf, PossibleFor, costOf, Passes}
+use Rattle.duties.specs.Result.{dispatchIn, agentsOf, PossibleFor, costOf, Passes}
 use Rattle.duties.proofs.Steps.{passes-sound, verdict-is}
 use Rattle.duties.proofs.Stages.{settled-hour}
 
@@ -99,21 +98,21 @@ module _ (bytes : List ℕ) (price : ℕ) (l : Lent) where
 
 -- ---- what is accepted
 module _ {bytes : List ℕ} {price : ℕ} {l : Lent} (m : Met bytes price l) where
-  pub met-possible : PossibleFor bytes (hourDemand (hourOf bytes)) (scheduleIn l)
-  met-possible = rw (demand-same (hourOf bytes) l (m .balanced) (m .holds .shares)) at (m .holds .schedule .possible)
+  pub met-possible : PossibleFor bytes (dispatchIn bytes) (scheduleIn l)
+  met-possible = rw (dispatch-same (hourOf bytes) l (m .balanced) (m .holds .shares)) at (m .holds .schedule .possible)
 
   pub met-cheapest : (q : ℕ → ℕ)
-      → PossibleFor bytes (hourDemand (hourOf bytes)) q
+      → PossibleFor bytes (dispatchIn bytes) q
       → costOf bytes (scheduleIn l) ≤ costOf bytes q
   met-cheapest q p =
       least-cost (hourOf bytes) l (m .holds .schedule) q
-      (rw (demand-same (hourOf bytes) l (m .balanced) (m .holds .shares)) p)
+      (rw (dispatch-same (hourOf bytes) l (m .balanced) (m .holds .shares)) p)
 
   pub met-balanced : sum (agentsOf bytes) (boughtIn l) ≡ sum (agentsOf bytes) (soldIn l)
-  met-balanced = held-balanced (hourOf bytes) (m .sound) price l (m .holds)
+  met-balanced = held-balanced (hourOf bytes) (m .sound) (m .balanced) price l (m .holds)
 
   pub met-money : signedSum (agentsOf bytes) (moneyIn l) ≡ pos 0
-  met-money = held-money (hourOf bytes) (m .sound) price l (m .holds)
+  met-money = held-money (hourOf bytes) (m .sound) (m .balanced) price l (m .holds)
 
 -- ---- our own lists
 

@@ -2,21 +2,20 @@
 --
 -- `Settled bytes before after r` is the promise of `settle`: for the bytes it returns the summary r, and the four lent lists, `before`
 -- at entry, are `after` at exit. Agents, plants and contracts are those of the bytes. Assumes nothing.
-use Prim.Native.Nat.{ℕ, _≤_, _<_}
+use Prim.Native.Nat.{ℕ, _+_, _≤_, _<_}
 use mathlib.Core.List.{List}
 use mathlib.Core.Logic.{_↔_, _⊎_}
 use mathlib.Core.Path.{_≡_, _∙_, sym}
 use lib.IntN.{pos}
 use Rattle.sums.specs.Sums.{sum, pick}
 use Rattle.columns.specs.Columns.{hourOf}
-use Rattle.hour.specs.Balance.{hourDemand}
 use Rattle.hour.specs.Signed.{signedSum}
 use Rattle.hour.specs.Answer.{Lent, Roomy, shareIn, contractedIn, boughtIn, soldIn, moneyIn, scheduleIn, amountIn}
 use Rattle.hour.specs.declared.Summary.{Summary}
 use Rattle.settle.specs.Settled.{Settled}
 use Rattle.settle.proofs.Judged.{settled-unique}
-use Rattle.duties.specs.Result.{agentsOf, contractsOf, retailerIn, generatorIn, generatedIn, PossibleFor, costOf, Passes, Untouched}
-use Rattle.duties.proofs.Steps.{Hour, number-none, list-possible, list-cheapest, list-balanced, demand-generated, list-shares, list-buyers, list-sellers, list-money}
+use Rattle.duties.specs.Result.{agentsOf, contractsOf, retailerIn, generatorIn, generatedIn, smallExportsIn, dispatchIn, PossibleFor, costOf, Passes, Untouched}
+use Rattle.duties.proofs.Steps.{Hour, number-none, demand-parted, list-possible, list-cheapest, list-balanced, demand-generated, list-shares, list-buyers, list-sellers, list-money}
 use Rattle.duties.proofs.Stages.{number-known, number-tells, refused-leaves, impossible-tells, the-hour}
 
 -- For one string of bytes and the same lists at entry there is one outcome.
@@ -41,9 +40,9 @@ module _ (bytes : List ℕ) (before after : Lent) (r : Summary) (done : Settled 
 
   -- FOR EVERY SHEET THAT PASSES REFUSALS 1 TO 9:
   module _ (passes : Passes bytes) where
-    -- 1. Refusal 10 or 13 is given exactly if no schedule is possible for the hour's demand.
+    -- 1. Refusal 10 or 13 is given exactly if no schedule is possible for what central dispatch has to meet.
     pub ten-or-thirteen-exactly : ((r .number ≡ 10) ⊎ (r .number ≡ 13))
-        ↔ ((q : ℕ → ℕ) → PossibleFor bytes (hourDemand (hourOf bytes)) q → ⊥)
+        ↔ ((q : ℕ → ℕ) → PossibleFor bytes (dispatchIn bytes) q → ⊥)
     ten-or-thirteen-exactly = impossible-tells bytes done passes
 
     -- OTHERWISE, GIVEN ROOM:
@@ -55,19 +54,23 @@ module _ (bytes : List ℕ) (before after : Lent) (r : Summary) (done : Settled 
       pub settled : r .number ≡ 0
       settled = number-none hour
 
-      -- 2. The schedule in the lent list is possible for the demand returned.
-      pub possible : PossibleFor bytes (r .demand) (scheduleIn after)
+      -- The demand returned is what central dispatch has to meet and small generators' exports, together.
+      pub demand-is-met : dispatchIn bytes + smallExportsIn bytes ≡ r .demand
+      demand-is-met = demand-parted hour
+
+      -- 2. The schedule in the lent list is possible for what central dispatch has to meet.
+      pub possible : PossibleFor bytes (dispatchIn bytes) (scheduleIn after)
       possible = list-possible hour
 
       -- No possible schedule costs less at the offer prices, whatever its numbers.
-      pub cheapest : (q : ℕ → ℕ) → PossibleFor bytes (r .demand) q → costOf bytes (scheduleIn after) ≤ costOf bytes q
+      pub cheapest : (q : ℕ → ℕ) → PossibleFor bytes (dispatchIn bytes) q → costOf bytes (scheduleIn after) ≤ costOf bytes q
       cheapest = list-cheapest hour
 
       -- 3. The kWh bought over all agents equal the kWh sold.
       pub bought-is-sold : sum (agentsOf bytes) (boughtIn after) ≡ sum (agentsOf bytes) (soldIn after)
       bought-is-sold = list-balanced hour
 
-      -- 4. The demand returned equals the sum of generator exports.
+      -- 4. The demand returned equals the sum of exports of both kinds of generator.
       pub demand-is-generated : r .demand ≡ generatedIn bytes
       demand-is-generated = demand-generated hour
 

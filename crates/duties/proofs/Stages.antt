@@ -12,13 +12,12 @@ use Rattle.refusals.specs.Refusals.{refused, cells, numberOf}
 use Rattle.refusals.specs.declared.Verdict.{Verdict}
 use Rattle.sheet.specs.Reading.{readVerdict}
 use Rattle.columns.specs.Columns.{hourOf}
-use Rattle.hour.specs.Balance.{hourDemand}
 use Rattle.hour.specs.Answer.{Lent, Roomy, balanceVerdict, coverVerdict, roomVerdict}
 use Rattle.hour.specs.declared.Summary.{Summary}
 use Rattle.hour.proofs.Verdicts.{Uncovered, cover-told, room-fine}
 use Rattle.hour.proofs.Balance.{refused-exactly}
 use Rattle.settle.specs.Settled.{verdictOf, Settled}
-use Rattle.duties.specs.Result.{plantsOf, PossibleFor, Passes, Untouched}
+use Rattle.duties.specs.Result.{dispatchIn, plantsOf, PossibleFor, Passes, Untouched}
 use Rattle.columns.proofs.Numbers.{Between, read-between, balance-between, cover-between, room-between, inOrder, listed, early-passed, late-number, not-uncovered}
 use Rattle.duties.proofs.Steps.{verdict-is, number-is, passes-sound, Hour}
 
@@ -87,7 +86,7 @@ module _ (bytes : List ℕ) {before after : Lent} {r : Summary} (done : Settled 
     told-uncovered (inr e) = inr (told 13 e)
 
     pub impossible-tells : ((r .number ≡ 10) ⊎ (r .number ≡ 13))
-        ↔ ((q : ℕ → ℕ) → PossibleFor bytes (hourDemand (hourOf bytes)) q → ⊥)
+        ↔ ((q : ℕ → ℕ) → PossibleFor bytes (dispatchIn bytes) q → ⊥)
     impossible-tells =
         let none = refused-exactly (hourOf bytes) (passes-sound bytes passes) in
         (λ h. none .0 (turned h (cover-told (hourOf bytes))), λ h. told-uncovered (none .1 h))

@@ -12,14 +12,13 @@ use Rattle.sums.specs.Sums.{sum}
 use Rattle.refusals.specs.declared.Refusal.{Refusal}
 use Rattle.refusals.specs.declared.Verdict.{Verdict}
 use Rattle.columns.specs.Columns.{hourOf}
-use Rattle.hour.specs.Balance.{hourDemand}
 use Rattle.hour.specs.Signed.{signedSum}
 use Rattle.hour.specs.Answer.{Lent, boughtIn, soldIn, moneyIn, scheduleIn}
 use Rattle.hour.specs.declared.Summary.{Summary}
 use Rattle.statement.specs.Points.{Holds}
 use Rattle.checking.specs.Check.{checkVerdict}
 use Rattle.settle.specs.Settled.{verdictOf, Settled}
-use Rattle.duties.specs.Result.{agentsOf, PossibleFor, costOf}
+use Rattle.duties.specs.Result.{dispatchIn, agentsOf, PossibleFor, costOf}
 use Rattle.duties.proofs.Checks.{sheet-first, points-decide, all-met, met-possible, met-cheapest, met-balanced, met-money, own-lists}
 
 module _ (bytes : List ℕ) (price : ℕ) (l : Lent) (r : Verdict) (done : r ≡ checkVerdict bytes price l) where
@@ -33,12 +32,12 @@ module _ (bytes : List ℕ) (price : ℕ) (l : Lent) (r : Verdict) (done : r ≡
 
   -- WHATEVER IS ACCEPTED:
   module _ (accepted : r ≡ Verdict.Fine) where
-    -- 3. Its schedule is possible for the hour's demand, which their shares leave what it is,
-    pub accepted-possible : PossibleFor bytes (hourDemand (hourOf bytes)) (scheduleIn l)
+    -- 3. Its schedule is possible for what central dispatch has to meet, which their shares leave what it is,
+    pub accepted-possible : PossibleFor bytes (dispatchIn bytes) (scheduleIn l)
     accepted-possible = met-possible (all-met bytes price l r done accepted)
 
     -- and no possible schedule costs less at the offer prices.
-    pub accepted-cheapest : (q : ℕ → ℕ) → PossibleFor bytes (hourDemand (hourOf bytes)) q → costOf bytes (scheduleIn l) ≤ costOf bytes q
+    pub accepted-cheapest : (q : ℕ → ℕ) → PossibleFor bytes (dispatchIn bytes) q → costOf bytes (scheduleIn l) ≤ costOf bytes q
     accepted-cheapest = met-cheapest (all-met bytes price l r done accepted)
 
     -- 4. The kWh bought over all agents equal the kWh sold,

@@ -15,7 +15,7 @@ use Rattle.sheet.specs.Reading.{countsOf, readVerdict, readOf}
 use Rattle.columns.specs.Columns.{hourOf}
 use Rattle.hour.specs.Sheet.{Sheet}
 use Rattle.hour.specs.Sound.{Sound}
-use Rattle.hour.specs.Balance.{losses, lossShare, hourDemand}
+use Rattle.hour.specs.Balance.{losses, lossShare, hourDemand, dispatchDemand}
 use Rattle.hour.specs.Lines.{scheduled, amount, contracted, bought, sold, money, cellsPerAgent, figure}
 use Rattle.hour.specs.Signed.{signedSum}
 use Rattle.hour.specs.Answer.{Lent, shareIn, contractedIn, boughtIn, soldIn, moneyIn, scheduleIn, amountIn, balanceVerdict, coverVerdict, roomVerdict, hourVerdict, summaryOf}
@@ -23,11 +23,11 @@ use Rattle.hour.specs.declared.Summary.{Summary}
 use Rattle.hour.proofs.Verdicts.{Balanced, balanced}
 use Rattle.hour.proofs.Cells.{share-told, contracted-told, bought-told, sold-told}
 use Rattle.hour.proofs.Money.{signed-eq}
-use Rattle.hour.proofs.Demand.{loss-shares, demand-delivered, generators-metered}
+use Rattle.hour.proofs.Demand.{small-within, loss-shares, demand-delivered, generators-metered}
 use Rattle.hour.proofs.Balance.{schedule-possible, schedule-cheapest, contracted-buyers, contracted-sellers, bought-sold, money-none}
 use Rattle.columns.proofs.Columns.{sound}
 use Rattle.settle.specs.Settled.{verdictOf, Settled}
-use Rattle.duties.specs.Result.{agentsOf, plantsOf, contractsOf, retailerIn, generatorIn, generatedIn, PossibleFor, costOf, Passes}
+use Rattle.duties.specs.Result.{smallExportsIn, dispatchIn, agentsOf, plantsOf, contractsOf, retailerIn, generatorIn, generatedIn, PossibleFor, costOf, Passes}
 use Rattle.refusals.specs.Refusals.{numberOf}
 use Rattle.columns.proofs.Numbers.{inOrder}
 
@@ -106,18 +106,22 @@ module _ {bytes : List ℕ} {before after : Lent} {r : Summary} (h : Hour bytes 
   sheet-balanced : Balanced (hourOf bytes)
   sheet-balanced = balanced (hourOf bytes) (h .passes .balance)
 
-  pub list-possible : PossibleFor bytes (r .demand) (scheduleIn after)
+  -- small generators deliver no more than the demand
+  pub demand-parted : dispatchIn bytes + smallExportsIn bytes ≡ r .demand
+  unfolding dispatchDemand hourDemand
+  demand-parted = omega (arith, demand-is, small-within (hourOf bytes) sheet-sound sheet-balanced)
+
+  pub list-possible : PossibleFor bytes (dispatchIn bytes) (scheduleIn after)
   list-possible =
       let p = schedule-possible (hourOf bytes) sheet-sound (h .cover) in
       record {
         enough = λ i l. omega (arith, schedule-at i l, p .enough i l);
         within = λ i l. omega (arith, schedule-at i l, p .within i l);
         meets =
-            sum-eq (plantsOf bytes) (scheduleIn after) (scheduled (hourOf bytes)) schedule-at ∙ p .meets
-            ∙ sym demand-is;
+            sum-eq (plantsOf bytes) (scheduleIn after) (scheduled (hourOf bytes)) schedule-at ∙ p .meets;
       }
 
-  pub list-cheapest : (q : ℕ → ℕ) → PossibleFor bytes (r .demand) q → costOf bytes (scheduleIn after) ≤ costOf bytes q
+  pub list-cheapest : (q : ℕ → ℕ) → PossibleFor bytes (dispatchIn bytes) q → costOf bytes (scheduleIn after) ≤ costOf bytes q
   unfolding cost
   list-cheapest q p =
       let offer = at (hourOf bytes .offers) in
@@ -125,14 +129,13 @@ module _ {bytes : List ℕ} {before after : Lent} {r : Summary} (h : Hour bytes 
         arith,
         sum-eq (plantsOf bytes) (λ i. offer i * scheduleIn after i) (λ i. offer i * scheduled (hourOf bytes) i)
             (λ i l. ap (λ (x : ℕ). offer i * x) (schedule-at i l)),
-        schedule-cheapest (hourOf bytes) sheet-sound (h .cover) q
-            (record { enough = p .enough; within = p .within; meets = p .meets ∙ demand-is }),
+        schedule-cheapest (hourOf bytes) sheet-sound (h .cover) q p,
       )
 
   pub list-balanced : sum (agentsOf bytes) (boughtIn after) ≡ sum (agentsOf bytes) (soldIn after)
   list-balanced =
       sum-eq (agentsOf bytes) (boughtIn after) (bought (hourOf bytes)) bought-at
-      ∙ bought-sold (hourOf bytes) sheet-sound (h .cover)
+      ∙ bought-sold (hourOf bytes) sheet-sound (h .cover) sheet-balanced
       ∙ sym (sum-eq (agentsOf bytes) (soldIn after) (sold (hourOf bytes)) sold-at)
 
   pub demand-generated : r .demand ≡ generatedIn bytes
@@ -167,4 +170,4 @@ module _ {bytes : List ℕ} {before after : Lent} {r : Summary} (h : Hour bytes 
   pub list-money : signedSum (agentsOf bytes) (moneyIn after) ≡ pos 0
   list-money =
       signed-eq (agentsOf bytes) (moneyIn after) (money (hourOf bytes)) money-at
-      ∙ money-none (hourOf bytes) sheet-sound (h .cover)
+      ∙ money-none (hourOf bytes) sheet-sound (h .cover) sheet-balanced

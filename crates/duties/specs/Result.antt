@@ -9,7 +9,7 @@ use Rattle.merit.specs.Merit.{Possible, cost}
 use Rattle.sheet.specs.Reading.{readVerdict}
 use Rattle.columns.specs.Columns.{hourOf}
 use Rattle.hour.specs.Sheet.{agents, plants, contracts, retails}
-use Rattle.hour.specs.Balance.{generated}
+use Rattle.hour.specs.Balance.{generated, smallExports, dispatchDemand}
 use Rattle.hour.specs.Lines.{cellsPerAgent}
 use Rattle.hour.specs.Answer.{Lent, balanceVerdict}
 use Rattle.hour.specs.declared.Summary.{Summary}
@@ -30,9 +30,17 @@ retailerIn bytes a = retails (hourOf bytes) a
 abbrev pub generatorIn : List ℕ → ℕ → Bool
 generatorIn bytes a = not (retails (hourOf bytes) a)
 
--- the sum of generator exports, over the boundary rows of generators
+-- the sum of generator exports, over the boundary rows of both kinds of generator
 abbrev pub generatedIn : List ℕ → ℕ
 generatedIn bytes = generated (hourOf bytes)
+
+-- small generators' exports, over their boundary rows
+abbrev pub smallExportsIn : List ℕ → ℕ
+smallExportsIn bytes = smallExports (hourOf bytes)
+
+-- what central dispatch has to meet: the hour's demand less these
+abbrev pub dispatchIn : List ℕ → ℕ
+dispatchIn bytes = dispatchDemand (hourOf bytes)
 
 -- A schedule is possible if each plant has a whole number of kWh from its must-run to its availability and they sum to the demand d
 abbrev pub PossibleFor : List ℕ → (d : ℕ) → (ℕ → ℕ) → Type 0

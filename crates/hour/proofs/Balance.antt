@@ -2,7 +2,7 @@
 use Prim.Native.Nat.{ℕ, _+_, _-_, _≤_, _<_}
 use native.Mathlib.Omega.{arith}
 use native.Mathlib.Decide.{decLt}
-use mathlib.Core.Bool.{Bool, true, false, not, cond, false≢true}
+use mathlib.Core.Bool.{Bool, true, false, not, cond, false≢true, true≢false}
 use mathlib.Core.Logic.{_↔_, _⊎_, inl, inr}
 use mathlib.Core.Path.{_≡_, refl, ap, _∙_, sym}
 use lib.IntN.{pos}
@@ -14,22 +14,22 @@ use Rattle.sums.proofs.Keyed.{keyed-absent, keyed-total}
 use Rattle.refusals.specs.declared.Verdict.{Verdict}
 use Rattle.merit.specs.Merit.{Possible, cost}
 use Rattle.merit.proofs.MustRun.{ideal-possible, ideal-least, ideal-none}
-use Rattle.hour.specs.Sheet.{Sheet, agents, plants, contracts, retails}
+use Rattle.hour.specs.Sheet.{Sheet, agents, plants, contracts, retails, outside}
 use Rattle.hour.specs.Sound.{Sound}
-use Rattle.hour.specs.Balance.{imported, exported, consumption, ownImport, commercial, demandBy, hourDemand}
+use Rattle.hour.specs.Balance.{imported, exported, consumption, ownImport, commercial, demandBy, hourDemand, injected, smallExports, dispatchDemandBy, dispatchDemand}
 use Rattle.hour.specs.Lines.{scheduled, bolsaPrice, amount, Basis, ownBy, contractedBy, boughtOf, soldOf, basisOf, own, contracted, bought, sold, moneyOf, money}
 use Rattle.hour.specs.Signed.{signedSum}
 use Rattle.hour.specs.Answer.{coverVerdict}
 use Rattle.refusals.proofs.Fine.{not-fine}
-use Rattle.hour.proofs.Verdicts.{covered, cover-fine, Uncovered, cover-told}
-use Rattle.hour.proofs.Demand.{generator-share}
+use Rattle.hour.proofs.Verdicts.{Balanced, covered, cover-fine, Uncovered, cover-told}
+use Rattle.hour.proofs.Demand.{generator-share, outside-retails, small-metered, small-within}
 use Rattle.hour.proofs.Money.{money-sum, money-even}
 
 -- ---- refusals 10 and 13, and the schedule
 module _ (s : Sheet) (ok : Sound s) where
   -- what the plants can deliver in the hour: each from its must-run to its availability
   abbrev pub CanDeliver : (ℕ → ℕ) → Type 0
-  CanDeliver q = Possible (at (s .mustRun)) (at (s .available)) (plants s) (hourDemand s) q
+  CanDeliver q = Possible (at (s .mustRun)) (at (s .available)) (plants s) (dispatchDemand s) q
 
   runs-within : (i : ℕ) → i < plants s → at (s .mustRun) i ≤ at (s .available) i
   runs-within i l = ok .plant i l .mustRun
@@ -45,7 +45,7 @@ module _ (s : Sheet) (ok : Sound s) where
       m = sum (plants s) (at (s .mustRun))
 
       d : ℕ
-      d = hourDemand s
+      d = dispatchDemand s
 
       none : ((a < d) ⊎ (d < m)) ↔ ((q : ℕ → ℕ) → CanDeliver q → ⊥)
       none = ideal-none (at (s .offers)) (at (s .mustRun)) (at (s .available)) (plants s) d runs-within
@@ -70,7 +70,7 @@ module _ (s : Sheet) (ok : Sound s) where
     unfolding scheduled
     schedule-possible =
         let c = covered s fine in
-        ideal-possible (at (s .offers)) (at (s .mustRun)) (at (s .available)) (plants s) (hourDemand s) runs-within
+        ideal-possible (at (s .offers)) (at (s .mustRun)) (at (s .available)) (plants s) (dispatchDemand s) runs-within
         (c .runs) (c .enough)
 
     -- no possible schedule costs less at the offer prices
@@ -80,7 +80,7 @@ module _ (s : Sheet) (ok : Sound s) where
     unfolding scheduled
     schedule-cheapest =
         let c = covered s fine in
-        ideal-least (at (s .offers)) (at (s .mustRun)) (at (s .available)) (plants s) (hourDemand s) runs-within
+        ideal-least (at (s .offers)) (at (s .mustRun)) (at (s .available)) (plants s) (dispatchDemand s) runs-within
         (c .runs) (c .enough)
 
 -- ---- rows of one kind of agent: an agent of the other kind has none
@@ -114,9 +114,23 @@ module _ (s : Sheet) (ok : Sound s) where
   unfolding ownImport
   retailer-import a e = pick-false (not (retails s a)) (imported s a) (ap not e)
 
+  inside-injects : (a : ℕ) → outside s a ≡ false → injected s a ≡ 0
+  unfolding injected
+  inside-injects a e = pick-false (outside s a) (exported s a) e
+
+  retailer-injects : (a : ℕ) → retails s a ≡ true → injected s a ≡ 0
+  retailer-injects a e = inside-injects a (not-so (outside s a) (λ f. true≢false (sym e ∙ outside-retails s a f)))
+    where
+      not-so : (t : Bool) → (t ≡ true → ⊥) → t ≡ false
+      not-so true n = absurd (n refl)
+      not-so false n = refl
+
   module _ (t : Basis) where
     retailer-made : (a : ℕ) → retails s a ≡ true → made s t a ≡ 0
     retailer-made a e = keyed-kind (retails s) (at (s .holders)) (t .schedule) (plants s) false (λ i l. ok .plant i l .generator) a e
+
+    outside-made : (a : ℕ) → outside s a ≡ true → made s t a ≡ 0
+    outside-made a e = keyed-kind (outside s) (at (s .holders)) (t .schedule) (plants s) false (λ i l. ok .plant i l .inside) a e
 
     retailer-sells : (a : ℕ) → retails s a ≡ true → sells s t a ≡ 0
     retailer-sells a e = keyed-kind (retails s) (at (s .sellers)) (t .amount) (contracts s) false (λ j l. ok .contract j l .generator) a e
@@ -161,42 +175,52 @@ module _ (s : Sheet) (ok : Sound s) where
         go a false e = sym (generator-buys a e)
 
     module _ (idle : Idle s (t .demand)) where
-      -- nobody has both: an agent's commercial demand and what its plants are scheduled to deliver, together, are its own energy
-      pub own-by-both : (a : ℕ) → a < agents s → made s t a + t .demand a ≡ ownBy s t a
-      own-by-both a l = go (retails s a) refl
+      -- nobody has two of them: an agent's commercial demand, what a small generator delivers and what an agent's plants are scheduled
+      -- to deliver, together, are its own energy
+      pub own-by-all : (a : ℕ) → a < agents s → made s t a + (t .demand a + injected s a) ≡ ownBy s t a
+      own-by-all a l = go (retails s a) (outside s a) refl refl
         where
-          go : (b : Bool) → retails s a ≡ b → made s t a + t .demand a ≡ cond b (t .demand a) (made s t a)
-          go true e = omega (arith, retailer-made a e)
-          go false e = omega (arith, idle a l e)
+          go : (b o : Bool) → retails s a ≡ b → outside s a ≡ o
+              → made s t a + (t .demand a + injected s a) ≡ cond b (t .demand a) (cond o (injected s a) (made s t a))
+          go true o e f = omega (arith, retailer-made a e, retailer-injects a e)
+          go false true e f = omega (arith, outside-made a f, idle a l e)
+          go false false e f = omega (arith, idle a l e, inside-injects a f)
 
       -- lines that have this own energy and these contracts
       module _ (o h : ℕ → ℕ) (owns : (a : ℕ) → a < agents s → o a ≡ ownBy s t a) (holds : (a : ℕ) → a < agents s → h a ≡ contractedBy s t a) where
         -- one agent: what it buys and what others owe to it, against what it sells and what it owes
         even : (a : ℕ) → a < agents s
-            → boughtOf s o h a + (made s t a + buys s t a) ≡ soldOf s o h a + (t .demand a + ownImport s a + sells s t a)
-        even a l = go (retails s a) refl (owns a l) (holds a l)
+            → boughtOf s o h a + (made s t a + injected s a + buys s t a) ≡ soldOf s o h a + (t .demand a + ownImport s a + sells s t a)
+        even a l = go (retails s a) refl (owns a l ∙ sym (own-by-all a l)) (holds a l)
           where
-            go : (b : Bool) → retails s a ≡ b → o a ≡ cond b (t .demand a) (made s t a) → h a ≡ cond b (buys s t a) (sells s t a)
-                → cond b (o a - h a) (h a - o a + ownImport s a) + (made s t a + buys s t a) ≡ cond b (h a - o a) (o a - h a) + (t .demand a + ownImport s a + sells s t a)
-            go true e eo eh = omega (arith, retailer-made a e, retailer-sells a e, retailer-import a e)
+            go : (b : Bool) → retails s a ≡ b → o a ≡ made s t a + (t .demand a + injected s a)
+                → h a ≡ cond b (buys s t a) (sells s t a)
+                → cond b (o a - h a) (h a - o a + ownImport s a) + (made s t a + injected s a + buys s t a)
+                ≡ cond b (h a - o a) (o a - h a) + (t .demand a + ownImport s a + sells s t a)
+            go true e eo eh = omega (arith, retailer-made a e, retailer-injects a e, retailer-sells a e, retailer-import a e)
             go false e eo eh = omega (arith, generator-buys a e, idle a l e)
 
-        module _ (met : sum (plants s) (t .schedule) ≡ demandBy s (t .demand)) where
+        module _ (met : sum (plants s) (t .schedule) ≡ dispatchDemandBy s (t .demand))
+            (enough : smallExports s ≤ demandBy s (t .demand)) where
           -- the kWh bought over all agents equal the kWh sold
           pub bought-sold-by : sum (agents s) (boughtOf s o h) ≡ sum (agents s) (soldOf s o h)
           bought-sold-by =
               let n = agents s in
               omega (
                 arith,
-                sum-eq n (λ a. boughtOf s o h a + (made s t a + buys s t a)) (λ a. soldOf s o h a + (t .demand a + ownImport s a + sells s t a)) even,
-                sum-add n (boughtOf s o h) (λ a. made s t a + buys s t a),
+                sum-eq n (λ a. boughtOf s o h a + (made s t a + injected s a + buys s t a))
+                    (λ a. soldOf s o h a + (t .demand a + ownImport s a + sells s t a)) even,
+                sum-add n (boughtOf s o h) (λ a. made s t a + injected s a + buys s t a),
                 sum-add n (soldOf s o h) (λ a. t .demand a + ownImport s a + sells s t a),
-                sum-add n (made s t) (buys s t),
+                sum-add n (λ a. made s t a + injected s a) (buys s t),
+                sum-add n (made s t) (injected s),
                 sum-add n (λ a. t .demand a + ownImport s a) (sells s t),
                 all-made,
                 all-buys,
                 all-sells,
+                small-metered s ok,
                 met,
+                enough,
               )
 
 -- as much sold as bought over all agents, the money sums to 0, whatever the price
@@ -224,22 +248,25 @@ module _ (s : Sheet) (ok : Sound s) where
   generator-demand a l e =
       omega (arith, pick-false (retails s a) (imported s a - exported s a) e, generator-share s a l e)
 
-  pub own-both : (a : ℕ) → a < agents s → keyed (at (s .holders)) (scheduled s) (plants s) a + commercial s a ≡ own s a
+  pub own-all : (a : ℕ)
+      → a < agents s
+      → keyed (at (s .holders)) (scheduled s) (plants s) a + (commercial s a + injected s a) ≡ own s a
   unfolding own
-  own-both = own-by-both s ok (basisOf s) generator-demand
+  own-all = own-by-all s ok (basisOf s) generator-demand
 
   module _ (fine : coverVerdict s ≡ Verdict.Fine) where
-    -- the schedules sum to the hour's demand
-    pub schedule-met : sum (plants s) (scheduled s) ≡ hourDemand s
+    -- the schedules sum to the hour's demand less small generators' exports
+    pub schedule-met : sum (plants s) (scheduled s) ≡ dispatchDemand s
     schedule-met = schedule-possible s ok fine .meets
 
     -- the kWh bought over all agents equal the kWh sold
-    pub bought-sold : sum (agents s) (bought s) ≡ sum (agents s) (sold s)
-    unfolding bought sold own contracted hourDemand
-    bought-sold =
+    pub bought-sold : Balanced s → sum (agents s) (bought s) ≡ sum (agents s) (sold s)
+    unfolding bought sold own contracted hourDemand dispatchDemand
+    bought-sold b =
         bought-sold-by s ok (basisOf s) generator-demand (own s) (contracted s) (λ a l. refl) (λ a l. refl) schedule-met
+        (small-within s ok b)
 
     -- the money over all agents sums to 0
-    pub money-none : signedSum (agents s) (money s) ≡ pos 0
+    pub money-none : Balanced s → signedSum (agents s) (money s) ≡ pos 0
     unfolding money
-    money-none = money-none-by (agents s) (sold s) (bought s) (bolsaPrice s) bought-sold
+    money-none b = money-none-by (agents s) (sold s) (bought s) (bolsaPrice s) (bought-sold b)

@@ -12,8 +12,8 @@ use Rattle.share.specs.Share.{leftOver, goesBefore, rankOf, shareOf}
 use Rattle.merit.specs.Merit.{before, ahead, schedule, idealDispatch, hourPrice}
 use Rattle.deals.specs.Deals.{stands, aheadOf, firmAt, restOf, cheaperOf, groupOf, demandedAt, amountAt, amountsOf}
 use Rattle.deals.specs.Hour.{ownTo, ownCount, ownOf, hourAmount}
-use Rattle.hour.specs.Sheet.{Sheet, agents, plants, contracts, retails}
-use Rattle.hour.specs.Balance.{referred, imported, exported, consumption, consumed, ownImport, entering, leaving, losses, consumptions, lossShare, commercial, demands, hourDemand}
+use Rattle.hour.specs.Sheet.{Sheet, agents, plants, contracts, retails, outside}
+use Rattle.hour.specs.Balance.{referred, imported, exported, consumption, consumed, ownImport, entering, leaving, losses, consumptions, lossShare, commercial, demands, hourDemand, injected, smallExports, dispatchDemand}
 use Rattle.hour.specs.Lines.{scheduled, bolsaPrice, amount, own, contracted, bought, sold, moneyOf, money, cellsPerAgent, cellOf, figure}
 use Rattle.hour.specs.Answer.{Lent, firstOver, balanceVerdict, coverVerdict, roomVerdict, hourVerdict}
 
@@ -106,6 +106,24 @@ retailersOf takes delivers =
 abbrev ownImporter : Sheet
 ownImporter = pairOf 13 10 3 (0 ∷ []) (0 ∷ []) (7 ∷ []) (13 ∷ []) (1 ∷ []) (5 ∷ []) (4 ∷ [])
 
+-- P5: retailer 0 takes r, generator 1 delivers g from one plant, small generator 2 delivers x, takes o, and sells q to the retailer
+abbrev smallOf : (takes delivers small own flag must available quantity : ℕ) → Sheet
+smallOf r g x o flag must available q =
+    record {
+      kinds = 1 ∷ 2 ∷ 3 ∷ [];
+      owners = 0 ∷ 1 ∷ 2 ∷ [];
+      factors = 0 ∷ 0 ∷ 0 ∷ [];
+      imports = r ∷ 0 ∷ o ∷ [];
+      exports = 0 ∷ g ∷ x ∷ [];
+      holders = 1 ∷ [];
+      flags = flag ∷ [];
+      mustRun = must ∷ [];
+      offers = 7 ∷ [];
+      available = available ∷ [];
+      sellers = 2 ∷ [];
+      deals = record { buyers = 0 ∷ []; kinds = 1 ∷ []; prices = 5 ∷ []; quantities = q ∷ [] };
+    }
+
 -- 'One hour in full'
 abbrev pub wholeHour : Sheet
 wholeHour =
@@ -190,8 +208,39 @@ cases =
     -- a generator that sells above its contracts buys its own import all the same: 3 bought and 9 sold, not 6 sold
     ∷ asked (linesOf ownImporter) (7 ∷ 13 ∷ 0 ∷ 0 ∷ 10 ∷ 0 ∷ 4 ∷ 6 ∷ 0 ∷ 0 ∷ 13 ∷ 3 ∷ 4 ∷ 3 ∷ 9 ∷ [])
     ∷ record { ask = moneyIn ownImporter; due = negℤ (pos 42) ∷ pos 42 ∷ [] }
+    -- P5: of 100 that are demanded a small generator delivers 40, so the plants 60; above its contract it sells, below it buys, and its
+    -- import is bought besides
+    ∷ asked (linesOf (smallOf 100 60 40 0 0 0 60 30))
+    (7 ∷ 100 ∷ 0
+    ∷ 0 ∷ 100 ∷ 0 ∷ 30 ∷ 70 ∷ 0
+    ∷ 0 ∷ 60 ∷ 0 ∷ 0 ∷ 0 ∷ 60
+    ∷ 0 ∷ 40 ∷ 0 ∷ 30 ∷ 0 ∷ 10
+    ∷ [])
+    ∷ asked (linesOf (smallOf 95 60 40 5 0 0 60 50))
+    (7 ∷ 100 ∷ 0
+    ∷ 0 ∷ 95 ∷ 0 ∷ 50 ∷ 45 ∷ 0
+    ∷ 0 ∷ 60 ∷ 0 ∷ 0 ∷ 0 ∷ 60
+    ∷ 0 ∷ 40 ∷ 5 ∷ 50 ∷ 15 ∷ 0
+    ∷ [])
+    ∷ record { ask = moneyIn (smallOf 95 60 40 5 0 0 60 50); due = negℤ (pos 315) ∷ pos 420 ∷ negℤ (pos 105) ∷ [] }
+    -- what it delivers is lost on the way like any generator's, and it carries none of that
+    ∷ asked (linesOf (smallOf 90 60 40 0 0 0 60 0))
+    (7 ∷ 100 ∷ 10
+    ∷ 10 ∷ 100 ∷ 0 ∷ 0 ∷ 100 ∷ 0
+    ∷ 0 ∷ 60 ∷ 0 ∷ 0 ∷ 0 ∷ 60
+    ∷ 0 ∷ 40 ∷ 0 ∷ 0 ∷ 0 ∷ 40
+    ∷ [])
+    -- refusals 10 and 13 at the demand less small generators' exports, on each side; small generators may meet it all
+    ∷ asked (refusalOf 18 (smallOf 100 60 40 0 0 0 60 0)) (0 ∷ [])
+    ∷ asked (refusalOf 18 (smallOf 100 60 40 0 0 0 59 0)) (10 ∷ [])
+    ∷ asked (refusalOf 18 (smallOf 100 60 40 0 1 60 70 0)) (0 ∷ [])
+    ∷ asked (refusalOf 18 (smallOf 100 60 40 0 1 61 70 0)) (13 ∷ [])
+    ∷ asked (scheduleOf (smallOf 100 0 100 0 0 0 60 0)) (0 ∷ 0 ∷ [])
+    -- 7 and 9 treat it as no retailer: it may take more than it gives, and it has no consumption
+    ∷ asked (refusalOf 18 (smallOf 0 0 3 5 0 0 0 0)) (8 ∷ [])
+    ∷ asked (refusalOf 18 (smallOf 0 0 5 3 0 0 0 0)) (9 ∷ [])
     ∷ []
 
 pub cases-hold : map (λ (c : Case). answer (c .ask)) cases ≡ map (λ (c : Case). c .due) cases
-unfolding answer cases sum peak pick keyed stop first total listTo leftOver goesBefore rankOf shareOf before ahead schedule idealDispatch hourPrice stands aheadOf firmAt restOf cheaperOf groupOf demandedAt amountAt amountsOf ownTo ownCount ownOf hourAmount retails referred imported exported consumption consumed ownImport entering leaving losses consumptions lossShare commercial demands hourDemand scheduled bolsaPrice amount own contracted bought sold moneyOf money cellOf figure firstOver balanceVerdict coverVerdict roomVerdict hourVerdict
+unfolding answer cases sum peak pick keyed stop first total listTo leftOver goesBefore rankOf shareOf before ahead schedule idealDispatch hourPrice stands aheadOf firmAt restOf cheaperOf groupOf demandedAt amountAt amountsOf ownTo ownCount ownOf hourAmount retails outside referred imported exported consumption consumed ownImport entering leaving losses consumptions lossShare commercial demands hourDemand injected smallExports dispatchDemand scheduled bolsaPrice amount own contracted bought sold moneyOf money cellOf figure firstOver balanceVerdict coverVerdict roomVerdict hourVerdict
 cases-hold = refl

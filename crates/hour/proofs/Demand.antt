@@ -1,13 +1,14 @@
 -- Document 01, 'From readings to commercial demand': loss shares sum to the losses, generators carry none, and the hour's demand
--- is what the generators deliver. Assumes nothing.
+-- is what the generators deliver, small ones among them. Assumes nothing.
 use Prim.Native.Nat.{ℕ, _+_, _-_, _≤_, _<_}
 use native.Mathlib.Omega.{arith}
-use mathlib.Core.Bool.{Bool, true, false, not}
+use mathlib.Core.Bool.{Bool, true, false, not, true≢false}
 use mathlib.Core.Logic.{_⊎_, inl, inr}
 use mathlib.Core.Path.{_≡_, refl, ap, _∙_, sym}
 use lib.ListN.{length}
 use lib.Dec.{eqb}
-use borrow.Author.Tests.{eqb-true}
+use borrow.Author.Tests.{eqb-true, not-true}
+use Rattle.rows.proofs.ByKind.{outside-carries-none}
 use Rattle.sums.specs.Sums.{sum, pick, keyed}
 use Rattle.sums.specs.Lists.{at, total}
 use Rattle.sums.proofs.Sums.{sum-eq, sum-le, sum-add, sum-zero, sum-term}
@@ -16,11 +17,16 @@ use Rattle.sums.proofs.Keyed.{keyed-total}
 use Rattle.sums.proofs.Lists.{length-listTo, getD-listTo, total-listTo}
 use Rattle.share.specs.Share.{shareOf}
 use Rattle.share.proofs.Laws.{shares-sum, share-no-weight, share-no-amount}
-use Rattle.hour.specs.Sheet.{Sheet, agents, boundaries, retails}
+use Rattle.hour.specs.Sheet.{Sheet, agents, boundaries, retails, outside}
 use Rattle.hour.specs.Sound.{Sound}
-use Rattle.hour.specs.Balance.{referred, imported, exported, consumption, consumed, ownImport, entering, leaving, losses, consumptions, lossShare, commercial, hourDemand, generated}
+use Rattle.hour.specs.Balance.{referred, imported, exported, consumption, consumed, ownImport, entering, leaving, losses, consumptions, lossShare, commercial, hourDemand, generated, injected, smallExports}
 use Rattle.hour.proofs.Verdicts.{Balanced}
 use Rattle.hour.proofs.Bounds.{taken-le}
+
+-- a small generator is metered as a generator
+pub outside-retails : (s : Sheet) (a : ℕ) → outside s a ≡ true → retails s a ≡ false
+unfolding outside retails
+outside-retails s a e = outside-carries-none (at (s .kinds) a) e
 
 module _ (s : Sheet) where
   -- ---- the loss shares
@@ -116,36 +122,67 @@ unfolding referred
 referred-plain x f e = rw e (omega arith)
 
 module _ (s : Sheet) (ok : Sound s) where
-  reads : ℕ → ℕ
-  reads j = pick (not (retails s (at (s .owners) j))) (at (s .exports) j)
+  -- the exports of some of the generators, by agent and by boundary row
+  module _ (some : ℕ → Bool) (plain : (a : ℕ) → some a ≡ true → retails s a ≡ false) where
+    reads : ℕ → ℕ
+    reads j = pick (some (at (s .owners) j)) (at (s .exports) j)
 
-  one-generator : (a : ℕ) → pick (not (retails s a)) (exported s a) ≡ keyed (at (s .owners)) reads (boundaries s) a
-  unfolding exported keyed reads
-  one-generator a = go (retails s a) refl
-    where
-      same : (j : ℕ) (t : Bool) → retails s a ≡ t → eqb (at (s .owners) j) a ≡ true → retails s (at (s .owners) j) ≡ t
-      same j t e q = ap (retails s) (eqb-true (at (s .owners) j) a q) ∙ e
+    one-metered : (a : ℕ) → pick (some a) (exported s a) ≡ keyed (at (s .owners)) reads (boundaries s) a
+    unfolding exported keyed reads
+    one-metered a = go (some a) refl
+      where
+        same : (j : ℕ) (t : Bool) → some a ≡ t → eqb (at (s .owners) j) a ≡ true → some (at (s .owners) j) ≡ t
+        same j t e q = ap some (eqb-true (at (s .owners) j) a q) ∙ e
 
-      go : (t : Bool)
-          → retails s a ≡ t
-          → pick (not t) (exported s a) ≡ sum (boundaries s) (λ j. pick (eqb (at (s .owners) j) a) (reads j))
-      go true e =
-          pick-false (not true) (exported s a) refl
-          ∙ sym (sum-zero (boundaries s) (λ j. pick (eqb (at (s .owners) j) a) (reads j))
-          (λ j l. pick-same (eqb (at (s .owners) j) a) (reads j) 0
-          (λ q. pick-false _ (at (s .exports) j) (ap not (same j true e q))) ∙ pick-zero _))
-      go false e =
-          pick-true (not false) (exported s a) refl
-          ∙ sum-eq (boundaries s)
-          (λ j. pick (eqb (at (s .owners) j) a) (referred (at (s .exports) j) (at (s .factors) j)))
-          (λ j. pick (eqb (at (s .owners) j) a) (reads j))
-          (λ j l. pick-same (eqb (at (s .owners) j) a) _ _
-          (λ q. referred-plain _ _ (ok .boundary j l .unreferred (same j false e q))
-          ∙ sym (pick-true _ (at (s .exports) j) (ap not (same j false e q)))))
+        go : (t : Bool)
+            → some a ≡ t
+            → pick t (exported s a) ≡ sum (boundaries s) (λ j. pick (eqb (at (s .owners) j) a) (reads j))
+        go false e =
+            pick-false false (exported s a) refl
+            ∙ sym (sum-zero (boundaries s) (λ j. pick (eqb (at (s .owners) j) a) (reads j))
+            (λ j l. pick-same (eqb (at (s .owners) j) a) (reads j) 0
+            (λ q. pick-false _ (at (s .exports) j) (same j false e q)) ∙ pick-zero _))
+        go true e =
+            pick-true true (exported s a) refl
+            ∙ sum-eq (boundaries s)
+            (λ j. pick (eqb (at (s .owners) j) a) (referred (at (s .exports) j) (at (s .factors) j)))
+            (λ j. pick (eqb (at (s .owners) j) a) (reads j))
+            (λ j l. pick-same (eqb (at (s .owners) j) a) _ _
+            (λ q. referred-plain _ _ (ok .boundary j l .unreferred (plain _ (same j true e q)))
+            ∙ sym (pick-true _ (at (s .exports) j) (same j true e q))))
+
+    all-metered : sum (agents s) (λ a. pick (some a) (exported s a))
+        ≡ sum (boundaries s) (λ j. pick (some (at (s .owners) j)) (at (s .exports) j))
+    unfolding reads
+    all-metered =
+        sum-eq (agents s) (λ a. pick (some a) (exported s a)) (λ a. keyed (at (s .owners)) reads (boundaries s) a)
+        (λ a l. one-metered a)
+        ∙ keyed-total (at (s .owners)) reads (agents s) (boundaries s) (λ j l. ok .boundary j l .there)
 
   pub generators-metered : sum (agents s) (λ a. pick (not (retails s a)) (exported s a)) ≡ generated s
-  unfolding generated reads
-  generators-metered =
-      sum-eq (agents s) (λ a. pick (not (retails s a)) (exported s a))
-      (λ a. keyed (at (s .owners)) reads (boundaries s) a) (λ a l. one-generator a)
-      ∙ keyed-total (at (s .owners)) reads (agents s) (boundaries s) (λ j l. ok .boundary j l .there)
+  unfolding generated
+  generators-metered = all-metered (λ a. not (retails s a)) (λ a e. not-true (retails s a) e)
+
+  -- ---- small generators
+  pub small-metered : sum (agents s) (injected s) ≡ smallExports s
+  unfolding smallExports injected
+  small-metered = all-metered (outside s) (outside-retails s)
+
+  -- they are generators, so the hour's demand is no less than what they deliver
+  part-within : (a : ℕ) → injected s a ≤ pick (not (retails s a)) (exported s a)
+  unfolding injected pick
+  part-within a = go (outside s a) (retails s a) (outside-retails s a)
+    where
+      go : (t u : Bool) → (t ≡ true → u ≡ false) → pick t (exported s a) ≤ pick (not u) (exported s a)
+      go true true h = absurd (true≢false (h refl))
+      go true false h = omega arith
+      go false u h = omega arith
+
+  pub small-within : Balanced s → smallExports s ≤ hourDemand s
+  small-within b =
+      omega (
+        arith,
+        small-metered,
+        demand-delivered s b,
+        sum-le (agents s) (injected s) (λ a. pick (not (retails s a)) (exported s a)) (λ a l. part-within a),
+      )

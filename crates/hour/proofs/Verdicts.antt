@@ -16,7 +16,7 @@ use Rattle.sums.proofs.Tests.{all-true, or-cases}
 use Rattle.refusals.specs.Refusals.{badExports, badGain, unshared, uncovered, overrun, noRoom, refused, refusedUnless}
 use Rattle.refusals.specs.declared.Verdict.{Verdict}
 use Rattle.hour.specs.Sheet.{Sheet, agents, plants, contracts, retails}
-use Rattle.hour.specs.Balance.{imported, exported, consumed, entering, leaving, losses, hourDemand}
+use Rattle.hour.specs.Balance.{imported, exported, consumed, entering, leaving, losses, dispatchDemand}
 use Rattle.hour.specs.Lines.{cellsPerAgent}
 use Rattle.hour.specs.Answer.{Lent, Roomy, firstOver, balanceVerdict, coverVerdict, roomVerdict}
 use Rattle.refusals.proofs.Fine.{fine-parts, fine-test}
@@ -77,30 +77,30 @@ module _ (s : Sheet) where
 
   -- ---- refusals 10 and 13
   pub record Covers : Type 0 where
-    pub enough : hourDemand s ≤ sum (plants s) (at (s .available))
-    pub runs : sum (plants s) (at (s .mustRun)) ≤ hourDemand s
+    pub enough : dispatchDemand s ≤ sum (plants s) (at (s .available))
+    pub runs : sum (plants s) (at (s .mustRun)) ≤ dispatchDemand s
 
   pub covered : coverVerdict s ≡ Verdict.Fine → Covers
   unfolding coverVerdict
   covered h =
       let all =
-      fine-parts (refusedUnless (leb (hourDemand s) (sum (plants s) (at (s .available)))) uncovered 0
-      ∷ refusedUnless (leb (sum (plants s) (at (s .mustRun))) (hourDemand s)) overrun 0 ∷ []) h in
+      fine-parts (refusedUnless (leb (dispatchDemand s) (sum (plants s) (at (s .available)))) uncovered 0
+      ∷ refusedUnless (leb (sum (plants s) (at (s .mustRun))) (dispatchDemand s)) overrun 0 ∷ []) h in
       record {
         enough = leb-true _ _ (fine-test _ uncovered 0 (all .0));
         runs = leb-true _ _ (fine-test _ overrun 0 (all .1 .0));
       }
 
-  pub cover-10 : sum (plants s) (at (s .available)) < hourDemand s → coverVerdict s ≡ refused uncovered 0
+  pub cover-10 : sum (plants s) (at (s .available)) < dispatchDemand s → coverVerdict s ≡ refused uncovered 0
   unfolding coverVerdict
   cover-10 h = simp (lt-leb _ _ h)
 
-  module _ (enough : hourDemand s ≤ sum (plants s) (at (s .available))) where
-    pub cover-13 : hourDemand s < sum (plants s) (at (s .mustRun)) → coverVerdict s ≡ refused overrun 0
+  module _ (enough : dispatchDemand s ≤ sum (plants s) (at (s .available))) where
+    pub cover-13 : dispatchDemand s < sum (plants s) (at (s .mustRun)) → coverVerdict s ≡ refused overrun 0
     unfolding coverVerdict
     cover-13 h = simp (le-leb _ _ enough, lt-leb _ _ h)
 
-    pub cover-fine : sum (plants s) (at (s .mustRun)) ≤ hourDemand s → coverVerdict s ≡ Verdict.Fine
+    pub cover-fine : sum (plants s) (at (s .mustRun)) ≤ dispatchDemand s → coverVerdict s ≡ Verdict.Fine
     unfolding coverVerdict
     cover-fine h = simp (le-leb _ _ enough, le-leb _ _ h)
 
@@ -110,11 +110,11 @@ module _ (s : Sheet) where
 
   pub cover-told : (coverVerdict s ≡ Verdict.Fine) ⊎ Uncovered
   cover-told =
-      go (decLt (sum (plants s) (at (s .available))) (hourDemand s))
-      (decLt (hourDemand s) (sum (plants s) (at (s .mustRun))))
+      go (decLt (sum (plants s) (at (s .available))) (dispatchDemand s))
+      (decLt (dispatchDemand s) (sum (plants s) (at (s .mustRun))))
     where
-      go : Dec (sum (plants s) (at (s .available)) < hourDemand s)
-          → Dec (hourDemand s < sum (plants s) (at (s .mustRun)))
+      go : Dec (sum (plants s) (at (s .available)) < dispatchDemand s)
+          → Dec (dispatchDemand s < sum (plants s) (at (s .mustRun)))
           → (coverVerdict s ≡ Verdict.Fine) ⊎ Uncovered
       go (yes l) k = inr (inl (cover-10 l))
       go (no l) (yes k) = inr (inr (cover-13 (omega arith) k))

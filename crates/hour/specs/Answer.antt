@@ -11,7 +11,7 @@ use Rattle.sums.specs.Lists.{at}
 use Rattle.refusals.specs.Refusals.{badExports, badGain, unshared, uncovered, overrun, noRoom, refusedUnless, firstOf}
 use Rattle.refusals.specs.declared.Verdict.{Verdict}
 use Rattle.hour.specs.Sheet.{Sheet, agents, plants, contracts, retails}
-use Rattle.hour.specs.Balance.{imported, exported, consumed, entering, leaving, losses, hourDemand}
+use Rattle.hour.specs.Balance.{imported, exported, consumed, entering, leaving, losses, hourDemand, dispatchDemand}
 use Rattle.hour.specs.Lines.{bolsaPrice, cellsPerAgent}
 use Rattle.hour.specs.declared.Summary.{Summary}
 
@@ -62,12 +62,12 @@ balanceVerdict s =
     ∷ refusedUnless (eqb (losses s) 0 || ltb 0 (consumed s)) unshared 0
     ∷ [])
 
--- refusals 10 and 13: the demand is more than all availabilities, or less than all must-runs
+-- refusals 10 and 13: what central dispatch has to meet is more than all availabilities, or less than all must-runs
 abbrev pub coverOf : (demand available mustRun : ℕ) → Verdict
 coverOf d a m = firstOf (refusedUnless (leb d a) uncovered 0 ∷ refusedUnless (leb m d) overrun 0 ∷ [])
 
 unfoldable pub coverVerdict : Sheet → Verdict
-coverVerdict s = coverOf (hourDemand s) (sum (plants s) (at (s .available))) (sum (plants s) (at (s .mustRun)))
+coverVerdict s = coverOf (dispatchDemand s) (sum (plants s) (at (s .available))) (sum (plants s) (at (s .mustRun)))
 
 -- refusal 11: the cells of the figures and one money an agent, one cell a plant and a contract
 unfoldable pub roomVerdict : Sheet → Lent → Verdict

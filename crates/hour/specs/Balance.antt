@@ -1,11 +1,11 @@
--- Document 01, 'From readings to commercial demand'. Assumes nothing.
+-- Document 01, 'From readings to commercial demand', and document 02, P5. Assumes nothing.
 use Prim.Native.Nat.{ℕ, _+_, _-_, _*_, _/_}
 use mathlib.Core.List.{List}
 use mathlib.Core.Bool.{not}
 use Rattle.sums.specs.Sums.{sum, pick, keyed}
 use Rattle.sums.specs.Lists.{at, listTo}
 use Rattle.share.specs.Share.{shareOf}
-use Rattle.hour.specs.Sheet.{Sheet, agents, boundaries, retails}
+use Rattle.hour.specs.Sheet.{Sheet, agents, boundaries, retails, outside}
 
 -- 1. Referral (1.1.1.2.3): a reading times (10,000 + factor), plus 5,000, divided by 10,000, rounded down
 unfoldable pub referred : (reading factor : ℕ) → ℕ
@@ -63,3 +63,20 @@ hourDemand s = demandBy s (commercial s)
 -- it equals the sum of generator exports: a generator is metered at 220 kV, so these are its readings
 unfoldable pub generated : Sheet → ℕ
 generated s = sum (boundaries s) (λ j. pick (not (retails s (at (s .owners) j))) (at (s .exports) j))
+
+-- ---- P5: small generators outside central dispatch
+
+-- what a small generator delivers is its metered export
+unfoldable pub injected : Sheet → ℕ → ℕ
+injected s a = pick (outside s a) (exported s a)
+
+-- small generators' exports, over their boundary rows
+unfoldable pub smallExports : Sheet → ℕ
+smallExports s = sum (boundaries s) (λ j. pick (outside s (at (s .owners) j)) (at (s .exports) j))
+
+-- the schedule sums to the hour's demand less these: it is what central dispatch has to meet
+abbrev pub dispatchDemandBy : Sheet → (commercial : ℕ → ℕ) → ℕ
+dispatchDemandBy s commercial = demandBy s commercial - smallExports s
+
+unfoldable pub dispatchDemand : Sheet → ℕ
+dispatchDemand s = dispatchDemandBy s (commercial s)

@@ -6,12 +6,12 @@ use Rattle.sums.specs.Sums.{keyed}
 use Rattle.sums.specs.Lists.{at}
 use Rattle.merit.specs.Merit.{idealDispatch, hourPrice}
 use Rattle.deals.specs.Hour.{hourAmount}
-use Rattle.hour.specs.Sheet.{Sheet, plants, contracts, retails}
-use Rattle.hour.specs.Balance.{ownImport, lossShare, commercial, demands, hourDemand}
+use Rattle.hour.specs.Sheet.{Sheet, plants, contracts, retails, outside}
+use Rattle.hour.specs.Balance.{injected, ownImport, lossShare, commercial, demands, dispatchDemand}
 
 -- what plant i is scheduled to deliver
 unfoldable pub scheduled : Sheet → ℕ → ℕ
-scheduled s i = idealDispatch (at (s .offers)) (at (s .mustRun)) (at (s .available)) (plants s) (hourDemand s) i
+scheduled s i = idealDispatch (at (s .offers)) (at (s .mustRun)) (at (s .available)) (plants s) (dispatchDemand s) i
 
 unfoldable pub bolsaPrice : Sheet → ℕ
 bolsaPrice s = hourPrice (at (s .offers)) (at (s .flags)) (scheduled s) (plants s)
@@ -26,21 +26,23 @@ pub record Basis : Type 0 where
   pub schedule : ℕ → ℕ
   pub amount : ℕ → ℕ
 
--- own energy: commercial demand of a retailer, schedule of a generator
+-- own energy: commercial demand of a retailer, metered export of a small generator, schedule of any other
 abbrev pub ownBy : Sheet → Basis → ℕ → ℕ
-ownBy s t a = cond (retails s a) (t .demand a) (keyed (at (s .holders)) (t .schedule) (plants s) a)
+ownBy s t a =
+    cond (retails s a) (t .demand a)
+    (cond (outside s a) (injected s a) (keyed (at (s .holders)) (t .schedule) (plants s) a))
 
 abbrev pub contractedBy : Sheet → Basis → ℕ → ℕ
 contractedBy s t a =
     cond (retails s a) (keyed (at (s .deals .buyers)) (t .amount) (contracts s) a)
     (keyed (at (s .sellers)) (t .amount) (contracts s) a)
 
--- a retailer buys the demand that contracts don't cover; a generator buys what its schedule falls short of them, and its own
--- import is added to that
+-- a retailer buys the demand that contracts don't cover; a generator buys what its own energy falls short of them, and its
+-- own import is added to that
 abbrev pub boughtOf : Sheet → (own contracted : ℕ → ℕ) → ℕ → ℕ
 boughtOf s own contracted a = cond (retails s a) (own a - contracted a) (contracted a - own a + ownImport s a)
 
--- a retailer sells the contracted excess, a generator the schedule above its contracted amount
+-- a retailer sells the contracted excess, a generator its own energy above its contracted amount
 abbrev pub soldOf : Sheet → (own contracted : ℕ → ℕ) → ℕ → ℕ
 soldOf s own contracted a = cond (retails s a) (contracted a - own a) (own a - contracted a)
 

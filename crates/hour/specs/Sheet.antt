@@ -3,7 +3,7 @@ use Prim.Native.Nat.{ℕ}
 use mathlib.Core.List.{List}
 use mathlib.Core.Bool.{Bool}
 use lib.ListN.{length}
-use Rattle.rows.specs.Rows.{isRetailer}
+use Rattle.rows.specs.Rows.{carriesLosses, isOutside}
 use Rattle.sums.specs.Lists.{at}
 use Rattle.deals.specs.Hour.{Rows}
 
@@ -37,6 +37,10 @@ plants s = length (s .holders)
 abbrev pub contracts : Sheet → ℕ
 contracts s = length (s .sellers)
 
--- kind 1 is a retailer, any other a generator
+-- who carries losses is metered as a retailer, any other agent as a generator
 unfoldable pub retails : Sheet → ℕ → Bool
-retails s a = isRetailer (at (s .kinds) a)
+retails s a = carriesLosses (at (s .kinds) a)
+
+-- a small generator stands outside central dispatch
+unfoldable pub outside : Sheet → ℕ → Bool
+outside s a = isOutside (at (s .kinds) a)

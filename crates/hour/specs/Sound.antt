@@ -5,7 +5,7 @@ use mathlib.Core.Path.{_≡_}
 use lib.ListN.{length}
 use Rattle.sums.specs.Lists.{at}
 use Rattle.rows.specs.Limits.{mostAgents, mostBoundaries, mostPlants, mostContracts, mostFactor, mostReading, mostOffer, mostAvailable, mostPrice, mostQuantity}
-use Rattle.hour.specs.Sheet.{Sheet, agents, boundaries, plants, contracts, retails}
+use Rattle.hour.specs.Sheet.{Sheet, agents, boundaries, plants, contracts, retails, outside}
 
 -- the counts are within their limits
 pub record Few (s : Sheet) : Type 0 where
@@ -38,6 +38,7 @@ pub record BoundarySound (s : Sheet) (j : ℕ) : Type 0 where
 pub record PlantSound (s : Sheet) (i : ℕ) : Type 0 where
   pub there : at (s .holders) i < agents s
   pub generator : retails s (at (s .holders) i) ≡ false
+  pub inside : outside s (at (s .holders) i) ≡ false
   pub flag : at (s .flags) i ≤ 1
   pub offer : at (s .offers) i ≤ mostOffer
   pub available : at (s .available) i ≤ mostAvailable

@@ -3,7 +3,6 @@
 use Prim.Native.Nat.{ℕ, zero, suc, _+_, _-_, _*_, _/_, _%_, _^_, _≤_, _<_}
 use mathlib.Core.Path.{_≡_, refl, _∙_}
 use mathlib.Core.List.{List, [], _∷_}
-use mathlib.Core.Logic.{_⊎_, inl, inr}
 use native.Mathlib.Omega.{arith}
 use native.Mathlib.Nat.{mul-le-mul, le-trans}
 use native.Mathlib.Decide.{decLt}
@@ -17,6 +16,7 @@ use Rattle.rows.specs.Limits.{mostOffer}
 use Rattle.sheet.specs.Reading.{readVerdict, countsOf, readOf}
 use Rattle.sheet.specs.Asking.{agentAt}
 use Rattle.sheet.specs.declared.Reading.{Reading}
+use Rattle.rows.proofs.ByKind.{agent-known}
 use Rattle.sheet.proofs.Accepted.{accepted-agent}
 use Rattle.hour.specs.Sheet.{Sheet, agents}
 use Rattle.hour.specs.Sound.{Sound}
@@ -98,18 +98,18 @@ module _ (bytes : List ℕ) (e : verdictFor bytes ≡ Verdict.Fine) where
 
   kind-small : (a : ℕ) → a < agents (hourOf bytes) → at (hourOf bytes .kinds) a < 10
   unfolding hourOf
-  kind-small a l = go (accepted-agent bytes (countsOf bytes) accepted a there .kind)
+  kind-small a l =
+      omega (
+        arith,
+        is,
+        agent-known (agentAt bytes (countsOf bytes) a .kind) (accepted-agent bytes (countsOf bytes) accepted a there .kind) .most,
+      )
     where
       there : a < countsOf bytes .agents
       there = omega (arith, agents-long bytes (countsOf bytes))
 
       is : at (columnsOf bytes (countsOf bytes) .kinds) a ≡ agentAt bytes (countsOf bytes) a .kind
       is = kind-at bytes (countsOf bytes) a there
-
-      go : (agentAt bytes (countsOf bytes) a .kind ≡ 1) ⊎ (agentAt bytes (countsOf bytes) a .kind ≡ 2)
-          → at (columnsOf bytes (countsOf bytes) .kinds) a < 10
-      go (inl k) = omega (arith, is)
-      go (inr k) = omega (arith, is)
 
   short : let h =
       hourOf bytes in

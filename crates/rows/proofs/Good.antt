@@ -1,23 +1,18 @@
 -- What the tests of a row say, as plain facts. Assumes nothing.
 use Prim.Native.Nat.{ℕ, _≤_}
 use mathlib.Core.Path.{_≡_}
-use mathlib.Core.Bool.{true, _||_, not}
+use mathlib.Core.Bool.{true, false, _||_, not}
 use mathlib.Core.List.{[], _∷_}
-use mathlib.Core.Logic.{_⊎_, inl, inr, ⊎-elim}
 use lib.Dec.{leb, eqb}
-use borrow.Author.Tests.{leb-true, eqb-true, eq-eqb}
-use Rattle.sums.proofs.Tests.{all-true, or-cases, or-else}
+use borrow.Author.Tests.{leb-true, eqb-true}
+use Rattle.sums.proofs.Tests.{all-true, or-else}
 use Rattle.rows.specs.Limits.{mostFactor, mostReading, mostOffer, mostAvailable, mostPrice, mostQuantity}
-use Rattle.rows.specs.Rows.{isAgent, agentBlank, boundaryBlank, boundaryGood, plantGood, contractGood}
+use Rattle.rows.specs.Rows.{isAgent, carriesLosses, isGenerator, maySell, mayBuy, holdsPlants, agentBlank, boundaryBlank, boundaryGood, plantGood, contractGood}
+use Rattle.rows.proofs.ByKind.{metered}
 use Rattle.rows.specs.declared.Words.{Words}
 use Rattle.rows.specs.declared.Boundary.{Boundary}
 use Rattle.rows.specs.declared.Plant.{Plant}
 use Rattle.rows.specs.declared.Contract.{Contract}
-
--- an agent's kind is 1 or 2
-pub agent-kind : (kind : ℕ) → isAgent kind ≡ true → (kind ≡ 1) ⊎ (kind ≡ 2)
-agent-kind kind e =
-    ⊎-elim (λ h. inl (eqb-true kind 1 h)) (λ h. inr (eqb-true kind 2 h)) (or-cases (eqb kind 1) (eqb kind 2) e)
 
 -- ---- unused bytes
 pub record AgentBlank (w : Words) : Type 0 where
@@ -39,23 +34,24 @@ pub record BoundaryFits (kind : ℕ) (b : Boundary) : Type 0 where
   pub factor : b .factor ≤ mostFactor
   pub import : b .import ≤ mostReading
   pub export : b .export ≤ mostReading
-  pub unreferred : kind ≡ 2 → b .factor ≡ 0
+  pub unreferred : carriesLosses kind ≡ false → b .factor ≡ 0
 
 pub boundary-fits : (kind : ℕ) (b : Boundary) → boundaryGood kind b ≡ true → BoundaryFits kind b
 boundary-fits kind b e =
     let all =
     all-true (isAgent kind) (leb (b .factor) mostFactor ∷ leb (b .import) mostReading ∷ leb (b .export) mostReading
-    ∷ (not (eqb kind 2) || eqb (b .factor) 0) ∷ []) e in
+    ∷ (not (isGenerator kind) || eqb (b .factor) 0) ∷ []) e in
     record {
       known = all .0;
       factor = leb-true _ _ (all .1 .0);
       import = leb-true _ _ (all .1 .1 .0);
       export = leb-true _ _ (all .1 .1 .1 .0);
-      unreferred = λ h. eqb-true _ _ (or-else (eqb kind 2) (eqb (b .factor) 0) (all .1 .1 .1 .1 .0) (eq-eqb _ _ h));
+      unreferred =
+          λ h. eqb-true _ _ (or-else (isGenerator kind) (eqb (b .factor) 0) (all .1 .1 .1 .1 .0) (metered kind (all .0) h));
     }
 
 pub record PlantFits (kind : ℕ) (p : Plant) : Type 0 where
-  pub generator : kind ≡ 2
+  pub holder : holdsPlants kind ≡ true
   pub flag : p .inflexible ≤ 1
   pub price : p .price ≤ mostOffer
   pub availability : p .availability ≤ mostAvailable
@@ -64,10 +60,10 @@ pub record PlantFits (kind : ℕ) (p : Plant) : Type 0 where
 pub plant-fits : (kind : ℕ) (p : Plant) → plantGood kind p ≡ true → PlantFits kind p
 plant-fits kind p e =
     let all =
-    all-true (eqb kind 2) (leb (p .inflexible) 1 ∷ leb (p .price) mostOffer ∷ leb (p .availability) mostAvailable
+    all-true (holdsPlants kind) (leb (p .inflexible) 1 ∷ leb (p .price) mostOffer ∷ leb (p .availability) mostAvailable
     ∷ leb (p .must) (p .availability) ∷ (not (eqb (p .inflexible) 0) || eqb (p .must) 0) ∷ []) e in
     record {
-      generator = eqb-true _ _ (all .0);
+      holder = all .0;
       flag = leb-true _ _ (all .1 .0);
       price = leb-true _ _ (all .1 .1 .0);
       availability = leb-true _ _ (all .1 .1 .1 .0);
@@ -75,8 +71,8 @@ plant-fits kind p e =
     }
 
 pub record ContractFits (seller buyer : ℕ) (c : Contract) : Type 0 where
-  pub generator : seller ≡ 2
-  pub retailer : buyer ≡ 1
+  pub sells : maySell seller ≡ true
+  pub buys : mayBuy buyer ≡ true
   pub least : 1 ≤ c .kind
   pub most : c .kind ≤ 3
   pub price : c .price ≤ mostPrice
@@ -85,11 +81,11 @@ pub record ContractFits (seller buyer : ℕ) (c : Contract) : Type 0 where
 pub contract-fits : (seller buyer : ℕ) (c : Contract) → contractGood seller buyer c ≡ true → ContractFits seller buyer c
 contract-fits seller buyer c e =
     let all =
-    all-true (eqb seller 2) (eqb buyer 1 ∷ leb 1 (c .kind) ∷ leb (c .kind) 3 ∷ leb (c .price) mostPrice
+    all-true (maySell seller) (mayBuy buyer ∷ leb 1 (c .kind) ∷ leb (c .kind) 3 ∷ leb (c .price) mostPrice
     ∷ leb (c .quantity) mostQuantity ∷ []) e in
     record {
-      generator = eqb-true _ _ (all .0);
-      retailer = eqb-true _ _ (all .1 .0);
+      sells = all .0;
+      buys = all .1 .0;
       least = leb-true _ _ (all .1 .1 .0);
       most = leb-true _ _ (all .1 .1 .1 .0);
       price = leb-true _ _ (all .1 .1 .1 .1 .0);

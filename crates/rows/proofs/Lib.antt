@@ -1,3 +1,4 @@
+pub mod ByKind
 pub mod Good
 pub mod Trip
 pub mod Stretch

@@ -50,15 +50,34 @@ agentBlank w = eqb (w .second) 0 && eqb (w .third) 0 && eqb (w .fourth) 0
 abbrev pub boundaryBlank : Words → Bool
 boundaryBlank w = eqb (w .second) 0
 
--- ---- the kinds of agent: 1 retailer, 2 generator
-abbrev pub isRetailer : ℕ → Bool
-isRetailer kind = eqb kind 1
+-- ---- the kinds of agent: 1 retailer, 2 generator, 3 small generator outside central dispatch (document 02, P5). What each kind does
+-- is asked by these tests; no other page names a kind's number
 
+-- carries losses, in proportion to its consumption: it is metered as a retailer
+abbrev pub carriesLosses : ℕ → Bool
+carriesLosses kind = eqb kind 1
+
+-- is metered as a generator: at 220 kV, so with no factor; export is net generation, import its own consumption
 abbrev pub isGenerator : ℕ → Bool
-isGenerator kind = eqb kind 2
+isGenerator kind = eqb kind 2 || eqb kind 3
+
+-- may sell under contracts, and may buy
+abbrev pub maySell : ℕ → Bool
+maySell kind = eqb kind 2 || eqb kind 3
+
+abbrev pub mayBuy : ℕ → Bool
+mayBuy kind = eqb kind 1
+
+-- holds plants
+abbrev pub holdsPlants : ℕ → Bool
+holdsPlants kind = eqb kind 2
+
+-- stands outside central dispatch: a generator without plants, whose own energy is its metered export
+abbrev pub isOutside : ℕ → Bool
+isOutside kind = isGenerator kind && not (holdsPlants kind)
 
 abbrev pub isAgent : ℕ → Bool
-isAgent kind = isRetailer kind || isGenerator kind
+isAgent kind = carriesLosses kind || isGenerator kind
 
 -- ---- no section has more rows than its limit
 abbrev pub fewRows : (agents boundaries plants contracts : ℕ) → Bool
@@ -75,15 +94,15 @@ boundaryGood kind b =
     isAgent kind && leb (b .factor) mostFactor && leb (b .import) mostReading && leb (b .export) mostReading
     && (not (isGenerator kind) || eqb (b .factor) 0)
 
--- the agent is a generator, the flag is 0 or 1, price and availability are within their limits; the must-run is 0 for a flexible
+-- the agent holds plants, the flag is 0 or 1, price and availability are within their limits; the must-run is 0 for a flexible
 -- plant, at most its availability for an inflexible one
 abbrev pub plantGood : (kind : ℕ) → Plant → Bool
 plantGood kind p =
-    isGenerator kind && leb (p .inflexible) 1 && leb (p .price) mostOffer && leb (p .availability) mostAvailable
+    holdsPlants kind && leb (p .inflexible) 1 && leb (p .price) mostOffer && leb (p .availability) mostAvailable
     && leb (p .must) (p .availability) && (not (eqb (p .inflexible) 0) || eqb (p .must) 0)
 
--- the seller is a generator, the buyer a retailer; kind, price and quantity are within their ranges
+-- the seller may sell and the buyer buy; kind, price and quantity are within their ranges
 abbrev pub contractGood : (seller buyer : ℕ) → Contract → Bool
 contractGood seller buyer c =
-    isGenerator seller && isRetailer buyer && leb 1 (c .kind) && leb (c .kind) 3 && leb (c .price) mostPrice
+    maySell seller && mayBuy buyer && leb 1 (c .kind) && leb (c .kind) 3 && leb (c .price) mostPrice
     && leb (c .quantity) mostQuantity

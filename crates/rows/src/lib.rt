@@ -3,7 +3,7 @@ ghost use mathlib.Core.Path.{_≡_};
 ghost use Prim.Native.Nat.{_+_, _≤_, _<_};
 ghost use lib.ListN.{length};
 ghost use Rattle.rows.specs.Bytes.{u32At, wordsAt};
-ghost use Rattle.rows.specs.Rows.{agentOf, boundaryOf, plantOf, contractOf, agentBlank, boundaryBlank, fewRows, agentGood, boundaryGood, plantGood, contractGood};
+ghost use Rattle.rows.specs.Rows.{agentOf, boundaryOf, plantOf, contractOf, agentBlank, boundaryBlank, carriesLosses, isGenerator, maySell, mayBuy, holdsPlants, isOutside, isAgent, fewRows, agentGood, boundaryGood, plantGood, contractGood};
 
 // A row's sixteen bytes, as four 32-bit numbers.
 pub struct Words {
@@ -29,6 +29,9 @@ impl Agent {
     pub const RETAILER: u32 = 1;
 
     pub const GENERATOR: u32 = 2;
+
+    // A small generator outside central dispatch.
+    pub const SMALL: u32 = 3;
 }
 
 pub struct Boundary {
@@ -188,6 +191,49 @@ pub fn boundary_blank(w: Words) -> bool
     w.second == 0
 }
 
+// What an agent of this kind does.
+pub fn carries_losses(kind: u32) -> bool
+    ensures { λ r. ⌜ r ≡ carriesLosses kind ⌝ }
+{
+    kind == Agent::RETAILER
+}
+
+pub fn is_generator(kind: u32) -> bool
+    ensures { λ r. ⌜ r ≡ isGenerator kind ⌝ }
+{
+    (kind == Agent::GENERATOR) | (kind == Agent::SMALL)
+}
+
+pub fn may_sell(kind: u32) -> bool
+    ensures { λ r. ⌜ r ≡ maySell kind ⌝ }
+{
+    (kind == Agent::GENERATOR) | (kind == Agent::SMALL)
+}
+
+pub fn may_buy(kind: u32) -> bool
+    ensures { λ r. ⌜ r ≡ mayBuy kind ⌝ }
+{
+    kind == Agent::RETAILER
+}
+
+pub fn holds_plants(kind: u32) -> bool
+    ensures { λ r. ⌜ r ≡ holdsPlants kind ⌝ }
+{
+    kind == Agent::GENERATOR
+}
+
+pub fn is_outside(kind: u32) -> bool
+    ensures { λ r. ⌜ r ≡ isOutside kind ⌝ }
+{
+    is_generator(kind) & !holds_plants(kind)
+}
+
+pub fn is_agent(kind: u32) -> bool
+    ensures { λ r. ⌜ r ≡ isAgent kind ⌝ }
+{
+    carries_losses(kind) | is_generator(kind)
+}
+
 // No section has more rows than its limit.
 pub fn few(agents: usize, boundaries: usize, plants: usize, contracts: usize) -> bool
     ensures { λ r. ⌜ r ≡ fewRows agents boundaries plants contracts ⌝ }
@@ -202,23 +248,23 @@ pub fn few(agents: usize, boundaries: usize, plants: usize, contracts: usize) ->
 pub fn agent_good(a: Agent) -> bool
     ensures { λ r. ⌜ r ≡ agentGood a ⌝ }
 {
-    (a.kind == Agent::RETAILER) | (a.kind == Agent::GENERATOR)
+    is_agent(a.kind)
 }
 
 pub fn boundary_good(kind: u32, b: Boundary) -> bool
     ensures { λ r. ⌜ r ≡ boundaryGood kind b ⌝ }
 {
-    ((kind == Agent::RETAILER) | (kind == Agent::GENERATOR))
+    is_agent(kind)
         & (b.factor <= Boundary::FACTOR)
         & (b.import <= Boundary::READING)
         & (b.export <= Boundary::READING)
-        & ((kind != Agent::GENERATOR) | (b.factor == 0))
+        & (!is_generator(kind) | (b.factor == 0))
 }
 
 pub fn plant_good(kind: u32, p: Plant) -> bool
     ensures { λ r. ⌜ r ≡ plantGood kind p ⌝ }
 {
-    (kind == Agent::GENERATOR)
+    holds_plants(kind)
         & (p.inflexible <= Plant::INFLEXIBLE)
         & (p.price <= Plant::OFFER)
         & (p.availability <= Plant::AVAILABILITY)
@@ -229,8 +275,8 @@ pub fn plant_good(kind: u32, p: Plant) -> bool
 pub fn contract_good(seller: u32, buyer: u32, c: Contract) -> bool
     ensures { λ r. ⌜ r ≡ contractGood seller buyer c ⌝ }
 {
-    (seller == Agent::GENERATOR)
-        & (buyer == Agent::RETAILER)
+    may_sell(seller)
+        & may_buy(buyer)
         & (Contract::FIXED <= c.kind)
         & (c.kind <= Contract::DEMANDED)
         & (c.price <= Contract::PRICE)

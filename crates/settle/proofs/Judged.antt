@@ -18,13 +18,13 @@ use Rattle.sheet.specs.declared.Reading.{Reading}
 use Rattle.columns.specs.Columns.{columnsOf, hourOf}
 use Rattle.columns.proofs.Columns.{agents-long, plants-long, contracts-long}
 use Rattle.hour.specs.Sheet.{Sheet, agents, plants, contracts}
-use Rattle.hour.specs.Balance.{lossShare, commercial, ownImport, losses, demands, hourDemand}
+use Rattle.hour.specs.Balance.{lossShare, commercial, ownImport, losses, demands, hourDemand, dispatchDemand}
 use Rattle.hour.specs.Answer.{Lent, Roomy, balanceVerdict, coverVerdict, roomVerdict, hourVerdict}
 use Rattle.hour.specs.declared.Summary.{Summary}
 use Rattle.hour.proofs.Verdicts.{Covers, covered}
 use Rattle.hour.proofs.Verdicts as verdicts
 use Rattle.refusals.proofs.Fine.{both-fine, AllFine, fine-parts}
-use Rattle.balance.specs.Balances.{zeros, weighVerdict, Weighed}
+use Rattle.balance.specs.Balances.{zeros, unscheduled, weighVerdict, Weighed}
 use Rattle.balance.specs.declared.Balance.{Balance}
 use Rattle.balance.proofs.Weighed.{weighed-counts, weighed-accepted}
 use Rattle.settle.specs.Parts.{turnedAway, roomy, lateVerdict}
@@ -55,20 +55,20 @@ module _ (bytes : List ℕ) (l : Lent) (b : Balance) (w : Weighed bytes b) where
       roomy (b .counts .agents) (b .counts .plants) (b .counts .contracts) (length (l .figures)) (length (l .money))
       (length (l .schedule)) (length (l .amounts))
 
-  pub verdict-is : lateVerdict (b .verdict) (b .demand) (sum (plants sheet) (at (sheet .available)))
+  pub verdict-is : lateVerdict (b .verdict) (b .target) (sum (plants sheet) (at (sheet .available)))
       (sum (plants sheet) (at (sheet .mustRun))) room ≡ verdictOf bytes l
   unfolding verdictOf hourVerdict coverVerdict roomVerdict weighVerdict hourOf
   verdict-is = go (readVerdict bytes) (balanceVerdict (hourOf bytes)) refl refl
     where
       go : (u v : Verdict) → readVerdict bytes ≡ u → balanceVerdict (hourOf bytes) ≡ v
-          → lateVerdict (b .verdict) (b .demand) (sum (plants sheet) (at (sheet .available)))
+          → lateVerdict (b .verdict) (b .target) (sum (plants sheet) (at (sheet .available)))
           (sum (plants sheet) (at (sheet .mustRun))) room ≡ verdictOf bytes l
       go (Verdict.Refused q) v e f = rw (w .answer, e)
       go Verdict.Fine (Verdict.Refused q) e f = rw (w .answer, e, f)
       go Verdict.Fine Verdict.Fine e f =
           let fine : weighVerdict bytes ≡ Verdict.Fine = rw (e, f) in
           let c : b .counts ≡ countsOf bytes = weighed-counts bytes b w fine in
-          let d : b .demand ≡ hourDemand (hourOf bytes) = rw fine at (w .demand) in
+          let d : b .target ≡ dispatchDemand (hourOf bytes) = rw fine at (w .target) in
           rw (
             w .answer,
             fine,
@@ -84,14 +84,17 @@ module _ (bytes : List ℕ) (l : Lent) (b : Balance) (w : Weighed bytes b) where
   -- ---- an hour that nothing turns away: what was read and weighed is the sheet's
   pub record Open : Type 0 where
     pub read : readOf bytes ≡ Reading.Accepted (b .counts)
+    pub balance : balanceVerdict sheet ≡ Verdict.Fine
     pub cover : Covers sheet
     pub room : Roomy sheet l
     pub kinds : Filled 0 zeros (b .kinds) (b .counts .agents) (at (sheet .kinds))
     pub shares : Filled 0 zeros (b .shares) (b .counts .agents) (lossShare sheet)
     pub commercial : Filled 0 zeros (b .commercial) (b .counts .agents) (commercial sheet)
+    pub own : Filled 0 zeros (b .own) (b .counts .agents) (unscheduled sheet)
     pub imports : Filled 0 zeros (b .imports) (b .counts .agents) (ownImport sheet)
     pub losses : b .losses ≡ losses sheet
     pub demand : b .demand ≡ hourDemand sheet
+    pub target : b .target ≡ dispatchDemand sheet
 
   module _ (fine : verdictOf bytes l ≡ Verdict.Fine) where
     parts : (readVerdict bytes ≡ Verdict.Fine) × (hourVerdict (hourOf bytes) l ≡ Verdict.Fine)
@@ -119,14 +122,17 @@ module _ (bytes : List ℕ) (l : Lent) (b : Balance) (w : Weighed bytes b) where
         let n : agents (hourOf bytes) ≡ b .counts .agents = rw (sym h) (agents-long bytes (b .counts)) in
         record {
           read = weighed-accepted bytes b w (w .answer ∙ weight);
+          balance = rw h (tests .0);
           cover = rw h (covered (hourOf bytes) (tests .1 .0));
           room = rw h (verdicts.roomy (hourOf bytes) l (tests .1 .1 .0));
           kinds = rw h (filled-count 0 _ _ _ _ _ n (rw weight at (w .kinds)));
           shares = rw h (filled-count 0 _ _ _ _ _ n (rw weight at (w .shares)));
           commercial = rw h (filled-count 0 _ _ _ _ _ n (rw weight at (w .commercial)));
+          own = rw h (filled-count 0 _ _ _ _ _ n (rw weight at (w .own)));
           imports = rw h (filled-count 0 _ _ _ _ _ n (rw weight at (w .imports)));
           losses = rw h (rw weight at (w .losses));
           demand = rw h (rw weight at (w .demand));
+          target = rw h (rw weight at (w .target));
         }
 
 pub demands-are : (h : Sheet) (n : ℕ) (l : List ℕ)

@@ -9,12 +9,12 @@ use lib.IntN.{ℤ, pos}
 use lib.ListN.{length, take}
 use Rattle.sums.specs.Sums.{sum, pick, keyed}
 use Rattle.sums.specs.Lists.{at, Filled}
-use Rattle.sums.proofs.Sums.{sum-eq, sum-most, sum-term, peak-eq}
+use Rattle.sums.proofs.Sums.{sum-eq, peak-eq}
 use Rattle.sums.proofs.Lists.{zeros-at, length-listTo, getD-listTo}
 use Rattle.sums.proofs.Keyed.{keyed-eq}
 use Rattle.sums.proofs.Fill.{filled-count, filled-by, filled-then, front-at, front-long}
 use Rattle.refusals.specs.declared.Verdict.{Verdict}
-use Rattle.rows.specs.Limits.{mostAgents, mostAvailable}
+use Rattle.rows.specs.Limits.{mostAgents, mostPlants, mostAvailable}
 use Rattle.merit.specs.Merit.{schedule, idealDispatch, hourPrice}
 use Rattle.merit.proofs.Schedule.{schedule-eq}
 use Rattle.merit.proofs.MustRun.{sum-above}
@@ -22,19 +22,15 @@ use Rattle.dispatch.specs.Dispatch.{Dispatched, priceOf}
 use Rattle.dispatch.proofs.Dispatched.{dispatched-plain, price-plain}
 use Rattle.hour.specs.Sheet.{Sheet, agents, plants, retails}
 use Rattle.hour.specs.Sound.{Sound}
-use Rattle.hour.specs.Balance.{lossShare, ownImport, commercial, hourDemand}
+use Rattle.hour.specs.Balance.{lossShare, ownImport, dispatchDemand}
 use Rattle.hour.specs.Lines.{scheduled, bolsaPrice, own, contracted, bought, sold, money, cellsPerAgent, figure}
-use Rattle.hour.proofs.Balance.{own-both}
-use Rattle.hour.proofs.Bounds.{scheduled-le, import-le, imported-le}
-use Rattle.hour.proofs.Fits.{contracted-le}
+use Rattle.hour.proofs.Balance.{own-all}
+use Rattle.hour.proofs.Bounds.{scheduled-le, import-le, imported-le, exported-le, injected-le}
+use Rattle.hour.proofs.Fits.{contracted-le, commercial-most}
+use Rattle.hour.proofs.Verdicts.{balanced}
 use Rattle.hour.proofs.Cells.{figure-is}
-use Rattle.balance.specs.Balances.{zeros}
+use Rattle.balance.specs.Balances.{zeros, unscheduled}
 use Rattle.settle.specs.Parts.{Countable, Tallied, spareOf, Covered, buys, sells, lineCell, lineMoney}
-
--- an agent's part of the hour's demand
-part-le : (h : Sheet) (a : ℕ) → a < agents h → commercial h a ≤ hourDemand h
-unfolding hourDemand
-part-le h a l = omega (arith, sum-term (agents h) a (λ k. commercial h k + ownImport h k) l)
 
 -- ---- the schedule: the price order over what is spare, for the demand that the must-runs leave, and then the must-runs added
 module _ (h : Sheet) (ok : Sound h) (d : ℕ) (before cs : List ℕ) (cover : Covered h d (length before) cs) where
@@ -44,7 +40,7 @@ module _ (h : Sheet) (ok : Sound h) (d : ℕ) (before cs : List ℕ) (cover : Co
 
   -- the demand that the must-runs leave
   left : ℕ
-  left = hourDemand h - sum (plants h) (at (h .mustRun))
+  left = dispatchDemand h - sum (plants h) (at (h .mustRun))
 
   left-covered : left ≤ sum (plants h) (at (spareOf h))
   unfolding left
@@ -61,7 +57,7 @@ module _ (h : Sheet) (ok : Sound h) (d : ℕ) (before cs : List ℕ) (cover : Co
     above-filled : Filled 0 before mid (plants h) (schedule (at (h .offers)) (at (spareOf h)) (plants h) left)
     unfolding left spareOf
     above-filled =
-        let k : Dispatched (h .offers) (spareOf h) left before r mid = rw (e, cover .demand) at w in
+        let k : Dispatched (h .offers) (spareOf h) left before r mid = rw (e, cover .target) at w in
         dispatched-plain (h .offers) (spareOf h) (plants h) (ok .whole .offers) (length-listTo _ _) left before r mid
         left-covered (cover .fits) k .1
 
@@ -97,7 +93,7 @@ module _ (h : Sheet) (ok : Sound h) where
       pub plants-count : (ks os : List ℕ)
           → ks ≡ h .holders
           → length os ≡ mostAgents
-          → ((a : ℕ) → a < mostAgents → at os a ≤ 3000000000)
+          → ((a : ℕ) → a < mostAgents → at os a + mostPlants * mostAvailable ≤ 4294967295)
           → Countable ks (take n after) os
       plants-count ks os p cells small =
           rw p
@@ -112,7 +108,7 @@ module _ (h : Sheet) (ok : Sound h) where
 
       pub own-is : (ks ds os : List ℕ)
           → ks ≡ h .holders
-          → Filled 0 zeros ds (agents h) (commercial h)
+          → Filled 0 zeros ds (agents h) (unscheduled h)
           → Tallied ks (take n after) ds os
           → (a : ℕ)
           → a < agents h
@@ -123,18 +119,26 @@ module _ (h : Sheet) (ok : Sound h) where
           let s =
           keyed-eq (at (h .holders)) (at (h .holders)) (at (take n after)) (scheduled h) (plants h) a (λ j q. refl)
           (λ j q. front-at _ _ _ _ f j (omega arith)) in
-          omega (arith, k, s, c .done a m, own-both h ok a m)
+          omega (arith, k, s, c .done a m, own-all h ok a m)
 
-  -- a commercial demand is no more than the plants can deliver, and so leaves room for a schedule
-  pub demand-small : (d room : ℕ) (os : List ℕ) → Covered h d room os → (a : ℕ) → a < mostAgents → at os a ≤ 3000000000
-  demand-small d room os c a m = go (decLt a (agents h))
+  -- what no schedule gives is bounded by what is metered, and so leaves room for a schedule
+  pub own-small : (d room : ℕ) (os : List ℕ)
+      → Covered h d room os
+      → (a : ℕ)
+      → a < mostAgents
+      → at os a + mostPlants * mostAvailable ≤ 4294967295
+  own-small d room os c a m = go (decLt a (agents h))
     where
-      most : sum (plants h) (at (h .available)) ≤ mostAvailable * plants h
-      most = sum-most (plants h) mostAvailable (at (h .available)) (λ i l. ok .plant i l .available)
-
-      go : Dec (a < agents h) → at os a ≤ 3000000000
-      go (yes l) = omega (arith, c .commercial .done a l, part-le h a l, c .enough, most, ok .few .plants)
-      go (no l) = omega (arith, c .commercial .kept a (omega arith), zeros-at mostAgents a)
+      go : Dec (a < agents h) → at os a + mostPlants * mostAvailable ≤ 4294967295
+      go (yes l) =
+          omega (
+            arith,
+            c .own .done a l,
+            commercial-most h ok (balanced h (c .balance)) a l,
+            injected-le h a,
+            exported-le h ok a,
+          )
+      go (no l) = omega (arith, c .own .kept a (omega arith), zeros-at mostAgents a)
 
 -- ---- the lines of n agents, from their columns
 module _ (h : Sheet) (n : ℕ) (e : agents h ≡ n) (ks ss os is cs : List ℕ)

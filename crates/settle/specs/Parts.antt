@@ -12,12 +12,12 @@ use Rattle.refusals.specs.Refusals.{noRoom, refusedUnless, firstOf}
 use Rattle.refusals.specs.declared.Refusal.{Refusal}
 use Rattle.refusals.specs.declared.Verdict.{Verdict}
 use Rattle.rows.specs.Limits.{mostAgents, mostPlants, mostContracts, mostAvailable, mostQuantity}
-use Rattle.rows.specs.Rows.{isRetailer}
-use Rattle.balance.specs.Balances.{zeros}
+use Rattle.rows.specs.Rows.{carriesLosses}
+use Rattle.balance.specs.Balances.{zeros, unscheduled}
 use Rattle.contracts.specs.Assign.{countIn, dealIn}
 use Rattle.hour.specs.Sheet.{Sheet, agents, plants, contracts}
-use Rattle.hour.specs.Balance.{commercial, demands, hourDemand}
-use Rattle.hour.specs.Answer.{coverOf}
+use Rattle.hour.specs.Balance.{demands, dispatchDemand}
+use Rattle.hour.specs.Answer.{balanceVerdict, coverOf}
 use Rattle.hour.specs.Lines.{scheduled, bolsaPrice, amount, own, contracted, moneyOf, cellsPerAgent, cellOf}
 use Rattle.hour.specs.declared.Summary.{Summary}
 
@@ -28,7 +28,7 @@ pub record Countable (keys values before : List ℕ) : Type 0 where
   pub agent : (j : ℕ) → j < length keys → at keys j < mostAgents
   pub value : (j : ℕ) → j < length keys → at values j ≤ mostAvailable
   pub cells : length before ≡ mostAgents
-  pub small : (a : ℕ) → a < mostAgents → at before a ≤ 3000000000
+  pub small : (a : ℕ) → a < mostAgents → at before a + mostPlants * mostAvailable ≤ 4294967295
 
 abbrev pub Tallied : (keys values before after : List ℕ) → Type 0
 Tallied keys values before after =
@@ -36,10 +36,10 @@ Tallied keys values before after =
 
 -- ---- an agent's line, from its kind and what it has
 abbrev pub buys : (kind own import contracted : ℕ) → ℕ
-buys kind own import contracted = cond (isRetailer kind) (own - contracted) (contracted - own + import)
+buys kind own import contracted = cond (carriesLosses kind) (own - contracted) (contracted - own + import)
 
 abbrev pub sells : (kind own contracted : ℕ) → ℕ
-sells kind own contracted = cond (isRetailer kind) (contracted - own) (own - contracted)
+sells kind own contracted = cond (carriesLosses kind) (contracted - own) (own - contracted)
 
 -- the cells of one agent, from k on
 abbrev pub lineSet : List ℕ → (k share own import contracted bought sold : ℕ) → List ℕ
@@ -72,14 +72,15 @@ lateVerdict v d a m room = firstOf (v ∷ coverOf d a m ∷ refusedUnless room n
 unfoldable pub spareOf : Sheet → List ℕ
 spareOf h = listTo (λ i. at (h .available) i - at (h .mustRun) i) (plants h)
 
--- the demand is the hour's, the plants cover it and need not run beyond it, the lent list has a cell for each, and the commercial
--- demands stand in os
+-- d is what central dispatch has to meet, the plants cover it and need not run beyond it, the lent list has a cell for each, and what
+-- own energy no schedule gives stands in os
 pub record Covered (h : Sheet) (d room : ℕ) (os : List ℕ) : Type 0 where
-  pub demand : d ≡ hourDemand h
-  pub enough : hourDemand h ≤ sum (plants h) (at (h .available))
-  pub runs : sum (plants h) (at (h .mustRun)) ≤ hourDemand h
+  pub balance : balanceVerdict h ≡ Verdict.Fine
+  pub target : d ≡ dispatchDemand h
+  pub enough : dispatchDemand h ≤ sum (plants h) (at (h .available))
+  pub runs : sum (plants h) (at (h .mustRun)) ≤ dispatchDemand h
   pub fits : plants h ≤ room
-  pub commercial : Filled 0 zeros os (agents h) (commercial h)
+  pub own : Filled 0 zeros os (agents h) (unscheduled h)
 
 -- the price, each agent's own energy, and the schedule
 pub record Generates (h : Sheet) (x : ℕ) (os before after : List ℕ) : Type 0 where

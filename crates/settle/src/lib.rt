@@ -21,9 +21,9 @@ ghost use Rattle.refusals.specs.declared.Verdict.{Verdict};
 ghost use Rattle.sheet.specs.Reading.{readOf};
 ghost use Rattle.sheet.specs.declared.Reading.{Reading};
 ghost use Rattle.columns.specs.Columns.{columnsOf};
-ghost use Rattle.hour.specs.Sheet.{plants, contracts};
+ghost use Rattle.hour.specs.Sheet.{plants};
 ghost use Rattle.balance.specs.Balances.{zeros};
-ghost use Rattle.settle.specs.Parts.{Covered, Trades, turnedAway, roomy, lateVerdict};
+ghost use Rattle.settle.specs.Parts.{Covered, Demanding, Trades, turnedAway, roomy, lateVerdict};
 ghost use Rattle.settle.specs.Settled.{lent, Settled};
 
 fn turned_away(r: Refusal) -> Summary
@@ -50,18 +50,18 @@ fn has_room(c: Counts, figures: usize, money: usize, schedule: usize, amounts: u
 }
 
 // Refusals 1 to 9 as weighing has them, then 10, then 13, then 11.
-fn judge(bytes: &[u8], c: Counts, weighed: Verdict, demand: u32, room: bool) -> Verdict
+fn judge(bytes: &[u8], c: Counts, weighed: Verdict, target: u32, room: bool) -> Verdict
     requires { ⌜ (weighed ≡ Verdict.Fine → readOf (now bytes) ≡ Reading.Accepted c) ⌝ }
-    ensures { λ r. ⌜ r ≡ lateVerdict weighed demand (sum (plants (columnsOf (now (bytes .entry)) c)) (at (columnsOf (now (bytes .entry)) c .available))) (sum (plants (columnsOf (now (bytes .entry)) c)) (at (columnsOf (now (bytes .entry)) c .mustRun))) room ⌝ }
+    ensures { λ r. ⌜ r ≡ lateVerdict weighed target (sum (plants (columnsOf (now (bytes .entry)) c)) (at (columnsOf (now (bytes .entry)) c .available))) (sum (plants (columnsOf (now (bytes .entry)) c)) (at (columnsOf (now (bytes .entry)) c .mustRun))) room ⌝ }
 {
     let Verdict::Fine = weighed else {
         return weighed;
     };
     let offer = plants::offered(bytes, c);
-    if offer.available < demand {
+    if offer.available < target {
         return refusals::refuse(Refusal::UNCOVERED, 0);
     }
-    if demand < offer.must {
+    if target < offer.must {
         return refusals::refuse(Refusal::OVERRUN, 0);
     }
     if room {
@@ -71,24 +71,24 @@ fn judge(bytes: &[u8], c: Counts, weighed: Verdict, demand: u32, room: bool) -> 
 }
 
 // Amounts and schedule into the lent lists, what each agent holds under contract and its own energy into its columns: own energy has
-// the commercial demands to begin with. The bolsa price is handed back.
+// to begin with what no schedule gives. The bolsa price is handed back.
 fn trade(
     bytes: &[u8],
     c: Counts,
-    demand: u32,
+    demands: &[u32],
+    target: u32,
     own: &mut [u32],
     contracted: &mut [u32],
     schedule: &mut [u32],
     amounts: &mut [u32],
 ) -> u32
     requires { ⌜ readOf (now bytes) ≡ Reading.Accepted c ⌝ }
-    requires { ⌜ Covered (columnsOf (now bytes) c) demand (length (now schedule)) (now own) ⌝ }
-    requires { ⌜ (contracts (columnsOf (now bytes) c) ≤ length (now amounts)) × (now contracted ≡ zeros) ⌝ }
+    requires { ⌜ Covered (columnsOf (now bytes) c) target (length (now schedule)) (now own) ⌝ }
+    requires { ⌜ Demanding (columnsOf (now bytes) c) (now demands) (length (now amounts)) × (now contracted ≡ zeros) ⌝ }
     ensures { λ r. ⌜ Trades (columnsOf (now (bytes .entry)) c) r (now (own .exit)) (now (contracted .exit)) (now (schedule .entry)) (now (schedule .exit)) (now (amounts .entry)) (now (amounts .exit)) ⌝ }
 {
-    let n = c.agents;
-    agreed::agree(bytes, c, &own[..n], amounts, contracted);
-    plants::generate(bytes, c, demand, schedule, own)
+    agreed::agree(bytes, c, demands, amounts, contracted);
+    plants::generate(bytes, c, target, schedule, own)
 }
 
 // Settles the hour of a sheet, for every string of bytes and lists of every length.
@@ -104,18 +104,20 @@ pub fn settle(
     let b = balance::weigh(bytes);
     let c = b.counts;
     let n = c.agents;
-    let demand = b.demand;
+    let target = b.target;
     let room = has_room(c, figures.len(), money.len(), schedule.len(), amounts.len());
-    let verdict = judge(bytes, c, b.verdict, demand, room);
+    let verdict = judge(bytes, c, b.verdict, target, room);
     if let Verdict::Refused(r) = verdict {
         return turned_away(r);
     }
-    let mut own = b.commercial;
+    let demands = b.commercial;
+    let mut own = b.own;
     let mut contracted = [0u32; Agent::MOST];
     let price = trade(
         bytes,
         c,
-        demand,
+        &demands[..n],
+        target,
         &mut own,
         &mut contracted,
         schedule,

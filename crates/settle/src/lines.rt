@@ -14,7 +14,7 @@ fn bought(kind: u32, own: u32, import: u32, contracted: u32) -> u32
     requires { ⌜ contracted - own + import ≤ 4294967295 ⌝ }
     ensures { λ r. ⌜ r ≡ buys kind own import contracted ⌝ }
 {
-    if kind == Agent::RETAILER {
+    if rows::carries_losses(kind) {
         sums::less(own, contracted)
     } else {
         sums::less(contracted, own) + import
@@ -25,7 +25,7 @@ fn bought(kind: u32, own: u32, import: u32, contracted: u32) -> u32
 fn sold(kind: u32, own: u32, contracted: u32) -> u32
     ensures { λ r. ⌜ r ≡ sells kind own contracted ⌝ }
 {
-    if kind == Agent::RETAILER {
+    if rows::carries_losses(kind) {
         sums::less(contracted, own)
     } else {
         sums::less(own, contracted)

@@ -12,7 +12,6 @@ ghost use Rattle.sheet.specs.Asking.{plantAt};
 ghost use Rattle.sheet.specs.declared.Reading.{Reading};
 ghost use Rattle.columns.specs.Columns.{columnsOf};
 ghost use Rattle.hour.specs.Sheet.{plants};
-ghost use Rattle.hour.specs.Balance.{hourDemand};
 ghost use Rattle.settle.specs.Parts.{Covered, Generates};
 
 // What all plants can deliver together, and what of it they must.
@@ -91,17 +90,17 @@ fn add_musts(musts: &[u32], schedule: &mut [u32])
     }
 }
 
-// The schedule into the lent list, and each generator's into its own energy, which has the commercial demands already: nobody has
+// The schedule into the lent list, and each generator's into its own energy, which has already what no schedule gives: nobody has
 // both. The bolsa price is handed back.
 pub(crate) fn generate(
     bytes: &[u8],
     c: Counts,
-    demand: u32,
+    target: u32,
     schedule: &mut [u32],
     own: &mut [u32],
 ) -> u32
     requires { ⌜ readOf (now bytes) ≡ Reading.Accepted c ⌝ }
-    requires { ⌜ Covered (columnsOf (now bytes) c) demand (length (now schedule)) (now own) ⌝ }
+    requires { ⌜ Covered (columnsOf (now bytes) c) target (length (now schedule)) (now own) ⌝ }
     ensures { λ r. ⌜ Generates (columnsOf (now (bytes .entry)) c) r (now (own .exit)) (now (schedule .entry)) (now (schedule .exit)) ⌝ }
 {
     let n = c.plants;
@@ -119,7 +118,7 @@ pub(crate) fn generate(
         &mut offers,
         &mut spare,
     );
-    let rest = sums::less(demand, must);
+    let rest = sums::less(target, must);
     dispatch::dispatch(&offers[..n], &spare[..n], rest, schedule);
     add_musts(&musts[..n], schedule);
     tally::tally(&holders[..n], &schedule[..n], own);

@@ -3,7 +3,6 @@ use Prim.Native.Nat.{ℕ, _+_, _%_, _≤_, _<_}
 use mathlib.Core.Path.{_≡_, refl, sym, subst}
 use mathlib.Core.Bool.{true, _&&_}
 use mathlib.Core.List.{List}
-use mathlib.Core.Logic.{_⊎_, inl, inr}
 use native.Mathlib.Omega.{arith}
 use native.Mathlib.Decide.{decLt}
 use lib.ListN.{length}
@@ -15,7 +14,8 @@ use Rattle.rows.specs.Limits.{mostAgents, mostBoundaries, mostPlants, mostContr
 use Rattle.rows.specs.Bytes.{wordsAt}
 use Rattle.rows.specs.Rows.{isAgent, agentBlank, boundaryBlank, agentGood, boundaryGood, plantGood, contractGood}
 use Rattle.sums.proofs.Tests.{and-left, and-right}
-use Rattle.rows.proofs.Good.{agent-kind, AgentBlank, agent-blank, boundary-blank, BoundaryFits, boundary-fits, PlantFits, plant-fits, ContractFits, contract-fits}
+use Rattle.rows.proofs.ByKind.{agent-known, holder-known, seller-known, buyer-known}
+use Rattle.rows.proofs.Good.{AgentBlank, agent-blank, boundary-blank, BoundaryFits, boundary-fits, PlantFits, plant-fits, ContractFits, contract-fits}
 use Rattle.sheet.specs.Reading.{boundaryStart, plantStart, sheetLength, longest, lengthGood, countsOf, countsGood, distancesGood, layoutGood, kindAt, agentVerdict, boundaryVerdict, plantVerdict, contractVerdict, checks, readVerdict, reading, readOf}
 use Rattle.sheet.specs.Asking.{agentAt, boundaryAt, plantAt, contractAt}
 use Rattle.sheet.specs.declared.Counts.{Counts}
@@ -173,16 +173,12 @@ kind-there s c a h = go (decLt a (c .agents))
     go (no l) = absurd (omega (arith, no-kind s c a (omega arith)))
 
 pub agent-there : (s : List ℕ) (c : Counts) (a : ℕ) → isAgent (kindAt s c a) ≡ true → a < c .agents
-agent-there s c a e = go (agent-kind _ e)
-  where
-    go : (kindAt s c a ≡ 1) ⊎ (kindAt s c a ≡ 2) → a < c .agents
-    go (inl h) = kind-there s c a (omega arith)
-    go (inr h) = kind-there s c a (omega arith)
+agent-there s c a e = kind-there s c a (agent-known _ e .least)
 
 -- ---- the rows of an accepted sheet, as plain facts
 pub record AgentSound (s : List ℕ) (c : Counts) (i : ℕ) : Type 0 where
   pub blank : AgentBlank (wordsAt s i)
-  pub kind : (agentAt s c i .kind ≡ 1) ⊎ (agentAt s c i .kind ≡ 2)
+  pub kind : isAgent (agentAt s c i .kind) ≡ true
   pub known : kindAt s c i ≡ agentAt s c i .kind
 
 pub record BoundarySound (s : List ℕ) (c : Counts) (i : ℕ) : Type 0 where
@@ -219,7 +215,7 @@ module _ (s : List ℕ) (c : Counts) (e : readOf s ≡ Reading.Accepted c) where
       let w = accepted-whole s c e in
       record {
         blank = agent-blank (wordsAt s i) (w .agentBlanks i h);
-        kind = agent-kind _ (w .agents i h);
+        kind = w .agents i h;
         known = kind-of s c i h;
       }
 
@@ -238,7 +234,7 @@ module _ (s : List ℕ) (c : Counts) (e : readOf s ≡ Reading.Accepted c) where
       let w = accepted-whole s c e in
       let f = plant-fits (kindAt s c (plantAt s c i .agent)) (plantAt s c i) (w .plants i h) in
       record {
-        there = kind-there s c _ (omega arith);
+        there = kind-there s c _ (holder-known _ (f .holder) .least);
         fits = f;
       }
 
@@ -248,7 +244,7 @@ module _ (s : List ℕ) (c : Counts) (e : readOf s ≡ Reading.Accepted c) where
       let k = contractAt s c i in
       let f = contract-fits (kindAt s c (k .seller)) (kindAt s c (k .buyer)) k (w .contracts i h) in
       record {
-        sellerThere = kind-there s c _ (omega arith);
-        buyerThere = kind-there s c _ (omega arith);
+        sellerThere = kind-there s c _ (seller-known _ (f .sells) .least);
+        buyerThere = kind-there s c _ (buyer-known _ (f .buys) .least);
         fits = f;
       }

@@ -12,8 +12,8 @@ use Rattle.refusals.specs.Refusals.{numberOf}
 use Rattle.merit.specs.Merit.{hourPrice}
 use Rattle.deals.specs.Deals.{cheaperOf, groupOf}
 use Rattle.deals.specs.Hour.{ownTo, ownOf}
-use Rattle.hour.specs.Sheet.{retails}
-use Rattle.hour.specs.Balance.{referred, imported, exported, consumption, consumed, ownImport, entering, leaving, losses}
+use Rattle.hour.specs.Sheet.{retails, outside}
+use Rattle.hour.specs.Balance.{referred, imported, exported, consumption, consumed, ownImport, entering, leaving, losses, injected, smallExports}
 use Rattle.hour.specs.Lines.{moneyOf}
 use Rattle.hour.specs.Answer.{Lent}
 use Rattle.hour.proofs.Cases.{wholeHour}
@@ -61,7 +61,7 @@ due n =
 
 pub first-told : listTo (λ n. numberOf (pointsVerdict wholeHour (priceStated n) (stated n))) 32 ≡ listTo due 32
 unfolding sum peak pick keyed total listTo hourPrice cheaperOf groupOf ownTo ownOf retails referred imported exported consumption
-    consumed ownImport entering leaving losses moneyOf leftBy givenAt every below fixedAt takenAt largestAt conditionalGood
+    consumed ownImport entering leaving losses outside injected smallExports moneyOf leftBy givenAt every below fixedAt takenAt largestAt conditionalGood
     isNear demandedGood rowGood good statedOf hourGood shareGood sharesGood dearest scheduleGood priceGood amountsGood lineGood
     linesGood pointsVerdict
 first-told = refl
@@ -91,7 +91,7 @@ otherRounding =
 
 pub accepted : (numberOf (pointsVerdict wholeHour 8000 longer) ≡ 0) × (numberOf (pointsVerdict wholeHour 8000 otherRounding) ≡ 0)
 unfolding sum peak pick keyed total listTo hourPrice cheaperOf groupOf ownTo ownOf retails referred imported exported consumption
-    consumed ownImport entering leaving losses moneyOf leftBy givenAt every below fixedAt takenAt largestAt conditionalGood
+    consumed ownImport entering leaving losses outside injected smallExports moneyOf leftBy givenAt every below fixedAt takenAt largestAt conditionalGood
     isNear demandedGood rowGood good statedOf hourGood shareGood sharesGood dearest scheduleGood priceGood amountsGood lineGood
     linesGood pointsVerdict
 accepted = (refl, refl)

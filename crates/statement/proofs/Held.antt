@@ -2,7 +2,7 @@
 -- equals sold, and the money sums to 0. Assumes nothing.
 use Prim.Native.Nat.{ℕ, _+_, _-_, _≤_, _<_}
 use native.Mathlib.Omega.{arith}
-use mathlib.Core.Path.{_≡_, _∙_, sym}
+use mathlib.Core.Path.{_≡_, ap, _∙_, sym}
 use lib.IntN.{pos}
 use Rattle.sums.specs.Sums.{sum}
 use Rattle.sums.specs.Lists.{at}
@@ -12,12 +12,12 @@ use Rattle.merit.specs.Merit.{Possible, cost}
 use Rattle.merit.proofs.LeastCost.{merit-least}
 use Rattle.hour.specs.Sheet.{Sheet, agents, plants, retails}
 use Rattle.hour.specs.Sound.{Sound}
-use Rattle.hour.specs.Balance.{imported, exported, consumption, ownImport, losses, lossShare, commercial, demandBy, hourDemand}
+use Rattle.hour.specs.Balance.{imported, exported, consumption, ownImport, losses, lossShare, commercial, demandBy, hourDemand, smallExports, dispatchDemandBy, dispatchDemand}
 use Rattle.hour.specs.Lines.{boughtOf, soldOf, moneyOf}
 use Rattle.hour.specs.Signed.{signedSum}
 use Rattle.hour.specs.Answer.{Lent, shareIn, ownIn, contractedIn, boughtIn, soldIn, moneyIn, scheduleIn}
 use Rattle.hour.proofs.Verdicts.{Balanced}
-use Rattle.hour.proofs.Demand.{loss-shares}
+use Rattle.hour.proofs.Demand.{loss-shares, small-within}
 use Rattle.hour.proofs.Money.{signed-eq}
 use Rattle.hour.proofs.Balance.{Idle, bought-sold-by, money-none-by}
 use Rattle.statement.specs.Points.{demandIn, least, basisIn, SharesFollow, ScheduleFollows, Holds}
@@ -47,22 +47,27 @@ module _ (s : Sheet) (l : Lent) where
         loss-shares s b,
       )
 
+  -- and so what central dispatch has to meet
+  pub dispatch-same : Balanced s → SharesFollow s l → dispatchDemandBy s (demandIn s l) ≡ dispatchDemand s
+  unfolding dispatchDemand hourDemand
+  dispatch-same b f = ap (λ (d : ℕ). d - smallExports s) (demand-same b f)
+
   -- no possible schedule costs less at the offer prices
   pub least-cost : ScheduleFollows s l → (q : ℕ → ℕ)
-      → Possible (least s) (at (s .available)) (plants s) (demandBy s (demandIn s l)) q
+      → Possible (least s) (at (s .available)) (plants s) (dispatchDemandBy s (demandIn s l)) q
       → cost (at (s .offers)) (plants s) (scheduleIn l) ≤ cost (at (s .offers)) (plants s) q
   least-cost f q p =
-      merit-least (at (s .offers)) (least s) (at (s .available)) (plants s) (demandBy s (demandIn s l)) (scheduleIn l)
+      merit-least (at (s .offers)) (least s) (at (s .available)) (plants s) (dispatchDemandBy s (demandIn s l)) (scheduleIn l)
       q (f .possible) (f .merit) p
 
-module _ (s : Sheet) (ok : Sound s) (price : ℕ) (l : Lent) (h : Holds s price l) where
+module _ (s : Sheet) (ok : Sound s) (b : Balanced s) (price : ℕ) (l : Lent) (h : Holds s price l) where
   -- the kWh bought over all agents equal the kWh sold
   pub held-balanced : sum (agents s) (boughtIn l) ≡ sum (agents s) (soldIn l)
   held-balanced =
       sum-eq (agents s) (boughtIn l) (boughtOf s (ownIn l) (contractedIn l)) (λ a k. h .lines a k .bought)
       ∙ bought-sold-by s ok (basisIn s l) (idle-in s l (h .shares)) (ownIn l) (contractedIn l)
       (λ a k. h .lines a k .own) (λ a k. h .lines a k .contracted)
-      (h .schedule .possible .meets)
+      (h .schedule .possible .meets) (omega (arith, small-within s ok b, demand-same s l b (h .shares)))
       ∙ sym (sum-eq (agents s) (soldIn l) (soldOf s (ownIn l) (contractedIn l)) (λ a k. h .lines a k .sold))
 
   -- the money over all agents sums to 0

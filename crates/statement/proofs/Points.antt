@@ -20,7 +20,7 @@ use Rattle.refusals.specs.declared.Verdict.{Verdict}
 use Rattle.refusals.proofs.Fine.{fine-parts, fine-test}
 use Rattle.hour.specs.Sheet.{Sheet, agents, plants, retails}
 use Rattle.hour.specs.Sound.{Sound}
-use Rattle.hour.specs.Balance.{consumption, consumed, ownImport, losses, demandBy}
+use Rattle.hour.specs.Balance.{consumption, consumed, ownImport, losses, dispatchDemandBy}
 use Rattle.hour.specs.Lines.{ownBy, contractedBy, boughtOf, soldOf, moneyOf}
 use Rattle.hour.specs.Answer.{Lent, shareIn, ownIn, importIn, contractedIn, boughtIn, soldIn, moneyIn, scheduleIn}
 use Rattle.statement.specs.Follows.{Near}
@@ -131,7 +131,7 @@ module _ (s : Sheet) (l : Lent) where
   order i = orderTest (dearest s l) (at (s .offers) i) (at (s .available) i) (scheduleIn l i)
 
   abbrev met : Bool
-  met = eqb (sum (plants s) (scheduleIn l)) (demandBy s (demandIn s l))
+  met = eqb (sum (plants s) (scheduleIn l)) (dispatchDemandBy s (demandIn s l))
 
   pub schedule-exact : (scheduleGood s l ≡ true) ↔ ScheduleFollows s l
   unfolding scheduleGood

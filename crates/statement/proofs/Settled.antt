@@ -1,9 +1,9 @@
 -- The lists of our own settlement, of any sheet that settles, meet the five points: our tie rules and roundings are among those
 -- that a statement may have. Assumes nothing.
-use Prim.Native.Nat.{ℕ, _*_, _<_}
+use Prim.Native.Nat.{ℕ, _-_, _*_, _<_}
 use native.Mathlib.Omega.{arith}
 use mathlib.Core.Bool.{cond}
-use mathlib.Core.Path.{_≡_, refl, ap₂, _∙_, sym}
+use mathlib.Core.Path.{_≡_, refl, ap, ap₂, _∙_, sym}
 use Rattle.sums.specs.Lists.{at, total, listTo}
 use Rattle.sums.proofs.Sums.{sum-eq, peak-eq}
 use Rattle.sums.proofs.Keyed.{keyed-eq}
@@ -13,9 +13,9 @@ use Rattle.share.proofs.Laws.{share-near, share-no-total}
 use Rattle.merit.specs.Merit.{hourPrice}
 use Rattle.merit.proofs.LeastCost.{possible-eq}
 use Rattle.merit.proofs.MustRun.{ideal-merit}
-use Rattle.hour.specs.Sheet.{Sheet, agents, plants, contracts, retails}
+use Rattle.hour.specs.Sheet.{Sheet, agents, plants, contracts, retails, outside}
 use Rattle.hour.specs.Sound.{Sound}
-use Rattle.hour.specs.Balance.{consumption, consumed, losses, consumptions, lossShare, commercial, demands, demandBy, hourDemand}
+use Rattle.hour.specs.Balance.{consumption, consumed, losses, consumptions, lossShare, commercial, demands, injected, smallExports, dispatchDemandBy, dispatchDemand}
 use Rattle.hour.specs.Lines.{scheduled, bolsaPrice, amount, ownBy, contractedBy, own, contracted, bought, sold, money, moneyOf, figure}
 use Rattle.hour.specs.Answer.{Lent, coverVerdict, shareIn, scheduleIn, amountIn, moneyIn}
 use Rattle.hour.proofs.Verdicts.{Balanced}
@@ -64,20 +64,21 @@ module _ (s : Sheet) (ok : Sound s) (b : Balanced s) (fine : coverVerdict s ≡ 
         }
 
     -- 22
-    demand-whole : demandBy s (demandIn s l) ≡ hourDemand s
-    unfolding hourDemand
-    demand-whole = sum-eq (agents s) _ _ (λ a h. omega (arith, demand-is a h))
+    demand-whole : dispatchDemandBy s (demandIn s l) ≡ dispatchDemand s
+    unfolding dispatchDemand
+    demand-whole =
+        ap (λ (d : ℕ). d - smallExports s) (sum-eq (agents s) _ _ (λ a h. omega (arith, demand-is a h)))
 
     ours-schedule : ScheduleFollows s l
     unfolding scheduled
     ours-schedule =
         record {
           possible = rw demand-whole
-              (possible-eq (least s) (at (s .available)) (plants s) (hourDemand s) (scheduled s) (scheduleIn l)
+              (possible-eq (least s) (at (s .available)) (plants s) (dispatchDemand s) (scheduled s) (scheduleIn l)
               (λ i h. sym (t .schedule i h)) (schedule-possible s ok fine));
           merit = record {
             order =
-                λ i j h k m r. ideal-merit (at (s .offers)) (least s) (at (s .available)) (plants s) (hourDemand s)
+                λ i j h k m r. ideal-merit (at (s .offers)) (least s) (at (s .available)) (plants s) (dispatchDemand s)
                 (λ i h. ok .plant i h .mustRun) .order i j h k (omega (arith, t .schedule i h))
                 (omega (arith, t .schedule j k));
           };
@@ -102,7 +103,7 @@ module _ (s : Sheet) (ok : Sound s) (b : Balanced s) (fine : coverVerdict s ≡ 
     own-is : (a : ℕ) → a < agents s → own s a ≡ ownBy s (basisIn s l) a
     unfolding own
     own-is a h =
-        ap₂ (λ (x y : ℕ). cond (retails s a) x y) (sym (demand-is a h))
+        ap₂ (λ (x y : ℕ). cond (retails s a) x (cond (outside s a) (injected s a) y)) (sym (demand-is a h))
         (keyed-eq (at (s .holders)) (at (s .holders)) (scheduled s) (scheduleIn l) (plants s) a (λ i k. refl)
         (λ i k. sym (t .schedule i k)))
 

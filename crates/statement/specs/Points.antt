@@ -8,7 +8,7 @@ use Rattle.sums.specs.Sums.{sum}
 use Rattle.sums.specs.Lists.{at, listTo}
 use Rattle.merit.specs.Merit.{Possible, ByMerit, hourPrice}
 use Rattle.hour.specs.Sheet.{Sheet, agents, plants, retails}
-use Rattle.hour.specs.Balance.{consumption, consumed, ownImport, losses, demandBy}
+use Rattle.hour.specs.Balance.{consumption, consumed, ownImport, losses, dispatchDemandBy}
 use Rattle.hour.specs.Lines.{Basis, ownBy, contractedBy, boughtOf, soldOf, moneyOf}
 use Rattle.hour.specs.Answer.{Lent, shareIn, ownIn, importIn, contractedIn, boughtIn, soldIn, moneyIn, scheduleIn, amountIn}
 use Rattle.statement.specs.Follows.{Near}
@@ -31,10 +31,10 @@ pub record SharesFollow (s : Sheet) (l : Lent) : Type 0 where
   pub generator : (a : ℕ) → a < agents s → retails s a ≡ false → shareIn l a ≡ 0
   pub nobody : (a : ℕ) → a < agents s → consumed s ≡ 0 → shareIn l a ≡ 0
 
--- 22. The schedule is possible, for the demand with their shares, and no plant above its must-run is dearer than another with
--- energy left
+-- 22. The schedule is possible, for what central dispatch has to meet of the demand with their shares, and no plant above its
+-- must-run is dearer than another with energy left
 pub record ScheduleFollows (s : Sheet) (l : Lent) : Type 0 where
-  pub possible : Possible (least s) (at (s .available)) (plants s) (demandBy s (demandIn s l)) (scheduleIn l)
+  pub possible : Possible (least s) (at (s .available)) (plants s) (dispatchDemandBy s (demandIn s l)) (scheduleIn l)
   pub merit : ByMerit (at (s .offers)) (least s) (at (s .available)) (plants s) (scheduleIn l)
 
 -- 23. The price is the highest flexible offer scheduled in it

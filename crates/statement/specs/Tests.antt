@@ -11,7 +11,7 @@ use Rattle.refusals.specs.Refusals.{badShares, badSchedule, badPrice, badAmount
 use Rattle.refusals.specs.declared.Verdict.{Verdict}
 use Rattle.merit.specs.Merit.{hourPrice}
 use Rattle.hour.specs.Sheet.{Sheet, agents, plants, retails}
-use Rattle.hour.specs.Balance.{consumption, consumed, ownImport, losses, demandBy}
+use Rattle.hour.specs.Balance.{consumption, consumed, ownImport, losses, dispatchDemandBy}
 use Rattle.hour.specs.Lines.{ownBy, contractedBy, boughtOf, soldOf, moneyOf}
 use Rattle.hour.specs.Answer.{Lent, shareIn, ownIn, importIn, contractedIn, boughtIn, soldIn, moneyIn, scheduleIn}
 use Rattle.statement.specs.Decide.{every, isNear}
@@ -28,7 +28,7 @@ shareGood s l a = shareTest (retails s a) (losses s) (consumption s a) (consumed
 unfoldable pub sharesGood : Sheet → Lent → Bool
 sharesGood s l = every (agents s) (shareGood s l) && eqb (sum (agents s) (shareIn l)) (losses s)
 
--- ---- 22. each plant within its bounds, all together the demand, and where a plant has energy left no dearer one is above its must-run
+-- ---- 22. each plant within its bounds, all together what dispatch has to meet, and where a plant has energy left no dearer one is above its must-run
 abbrev pub withinTest : (least available q : ℕ) → Bool
 withinTest m a q = leb m q && leb q a
 
@@ -42,7 +42,7 @@ dearest s l = peak (plants s) (λ i. pick (ltb (least s i) (scheduleIn l i)) (at
 unfoldable pub scheduleGood : Sheet → Lent → Bool
 scheduleGood s l =
     every (plants s) (λ i. withinTest (least s i) (at (s .available) i) (scheduleIn l i))
-    && eqb (sum (plants s) (scheduleIn l)) (demandBy s (demandIn s l))
+    && eqb (sum (plants s) (scheduleIn l)) (dispatchDemandBy s (demandIn s l))
     && every (plants s) (λ i. orderTest (dearest s l) (at (s .offers) i) (at (s .available) i) (scheduleIn l i))
 
 -- ---- 23

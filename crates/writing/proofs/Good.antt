@@ -4,15 +4,13 @@ use native.Mathlib.Omega.{arith}
 use mathlib.Core.Path.{_≡_}
 use mathlib.Core.Bool.{Bool, true, false, cond}
 use mathlib.Core.List.{List, [], _∷_}
-use mathlib.Core.Logic.{⊎-elim}
 use borrow.Author.Tests.{leb-true, eqb-true, le-leb, eq-eqb}
 use lib.ListN.{length}
 use lib.Dec.{leb, eqb}
 use Rattle.sums.specs.Lists.{at}
 use Rattle.sums.proofs.Tests.{all-true, and-both}
 use Rattle.refusals.specs.declared.Verdict.{Verdict}
-use Rattle.rows.specs.Rows.{isAgent, agentGood, boundaryGood, plantGood, contractGood}
-use Rattle.rows.proofs.Good.{agent-kind}
+use Rattle.rows.specs.Rows.{agentGood, boundaryGood, plantGood, contractGood}
 use Rattle.sheet.specs.Reading.{trailerStart, countsGood, sheetLength}
 use Rattle.sheet.specs.Asking.{rowsIn}
 use Rattle.sheet.proofs.Accepted.{Few, good-few}
@@ -111,12 +109,6 @@ pub listed-there : (l : List ℕ) (x : ℕ) → 0 < at l x → x < length l
 listed-there [] x h = absurd (omega arith)
 listed-there (a ∷ l) zero h = omega arith
 listed-there (a ∷ l) (suc x) h = let k = listed-there l x h in omega arith
-
-pub agent-least : (kind : ℕ) → isAgent kind ≡ true → 0 < kind
-agent-least kind e = ⊎-elim (λ h. omega arith) (λ h. omega arith) (agent-kind kind e)
-
-pub agent-most : (kind : ℕ) → isAgent kind ≡ true → kind ≤ 2
-agent-most kind e = ⊎-elim (λ h. omega arith) (λ h. omega arith) (agent-kind kind e)
 
 -- ---- sizes are small
 pub lists-small : (n : Numbers) → listsGood n ≡ true → trailerStart (countsIn n) < 65536

@@ -18,7 +18,8 @@ use Rattle.sheet.proofs.Accepted.{Whole, Few}
 use Rattle.writing.specs.Numbers.{Numbers, countsIn, agentIn, boundaryIn, plantIn, contractIn}
 use Rattle.writing.specs.Words.{agentWords, boundaryWords, plantWords, contractWords, trailerWords, sheetRow, sheetOf}
 use Rattle.writing.proofs.Rows.{agent-narrow, boundary-narrow, plant-narrow, contract-narrow, boundary-there, plant-there, contract-there}
-use Rattle.writing.proofs.Good.{Good, good-rows, lists-few, listed-there, agent-least, agent-most}
+use Rattle.writing.proofs.Good.{Good, good-rows, lists-few, listed-there}
+use Rattle.rows.proofs.ByKind.{agent-known, holder-known, seller-known, buyer-known}
 use Rattle.writing.proofs.Same.{Same, same-boundary, same-plant, same-contract}
 
 -- the rows of the sheet, by section
@@ -110,7 +111,7 @@ module _ (n : Numbers) (g : Good n) where
 
   agent-read : (i : ℕ) → i < c .agents → wordsAt (sheetOf n) i ≡ agentWords (agentIn (n .agents) i)
   agent-read i h =
-      let k = agent-most (at (n .agents) i) (g .agents i h) in
+      let k = agent-known (at (n .agents) i) (g .agents i h) in
       row-read i _ (omega arith) (laid n .agent i h) (agent-narrow _ (omega arith))
 
   boundary-read : (i : ℕ)
@@ -147,13 +148,14 @@ module _ (n : Numbers) (g : Good n) where
         agent = λ i h. ap agentOf (agent-read i h);
         boundary = λ i h.
             let f = fits-boundary i h in
-            ap boundaryOf (boundary-read i h) ∙ boundary-there _ (numbered _ (agent-least _ (f .known))) (omega arith);
+            ap boundaryOf (boundary-read i h) ∙ boundary-there _ (numbered _ (agent-known _ (f .known) .least)) (omega arith);
         plant = λ i h.
             let f = fits-plant i h in
-            ap plantOf (plant-read i h) ∙ plant-there _ (numbered _ (omega arith)) (omega arith);
+            ap plantOf (plant-read i h) ∙ plant-there _ (numbered _ (holder-known _ (f .holder) .least)) (omega arith);
         contract = λ i h.
             let f = fits-contract i h in
-            ap contractOf (contract-read i h) ∙ contract-there _ (numbered _ (omega arith)) (numbered _ (omega arith));
+            ap contractOf (contract-read i h)
+            ∙ contract-there _ (numbered _ (seller-known _ (f .sells) .least)) (numbered _ (buyer-known _ (f .buys) .least));
       }
 
   -- ---- the trailer

@@ -60,11 +60,20 @@ pub fn hour(random: &mut Random) -> Rows {
         rows.agents[first] = 2;
         rows.agents[(first + 1) % agents] = 1;
     }
-    let of_kind = |kind: u32| -> Vec<u32> { (0..agents as u32).filter(|&a| rows.agents[a as usize] == kind).collect() };
-    let (retailers, generators) = (of_kind(1), of_kind(2));
+    let of_kind = |rows: &Rows, kind: u32| -> Vec<u32> {
+        (0..agents as u32).filter(|&a| rows.agents[a as usize] == kind).collect()
+    };
+    let (retailers, generators) = (of_kind(&rows, 1), of_kind(&rows, 2));
+    // in every third hour some are small: they have no plants
+    if random.once_in(3) {
+        for &g in generators.iter().skip(1).filter(|_| random.once_in(2)) {
+            rows.agents[g as usize] = 3;
+        }
+    }
+    let holders = of_kind(&rows, 2);
     let consumed = readings(random, &mut rows, boundaries, scale, &generators);
     if !generators.is_empty() {
-        offers(random, &mut rows, plants, &generators);
+        offers(random, &mut rows, plants, &holders);
         if !retailers.is_empty() {
             deals(random, &mut rows, contracts, scale, &retailers, &generators, &consumed);
         }
@@ -86,7 +95,7 @@ fn readings(random: &mut Random, rows: &mut Rows, count: usize, scale: u32, gene
         let wanted = if j == 0 && !generators.is_empty() { random.pick(generators) } else { random.below(agents as u64) as u32 };
         let a = wanted as usize;
         let import = if random.once_in(5) { 0 } else { random.range(0, scale) };
-        if rows.agents[a] == 2 {
+        if rows.agents[a] != 1 {
             let own = if random.once_in(3) { import / 8 } else { 0 };
             imports[a] += own as u64;
             rows.boundaries.push([wanted, 0, own, 0]);
@@ -107,7 +116,7 @@ fn readings(random: &mut Random, rows: &mut Rows, count: usize, scale: u32, gene
     let gained = imports.iter().sum::<u64>() - exports.iter().sum::<u64>();
     let some = random.below(scale as u64 + 1);
     let losses = if total == 0 { 0 } else { random.pick(&[0, 1, 2, total / 50, total / 7, some, 3 * total]) };
-    let meters: Vec<usize> = (0..count).filter(|&j| rows.agents[rows.boundaries[j][0] as usize] == 2).collect();
+    let meters: Vec<usize> = (0..count).filter(|&j| rows.agents[rows.boundaries[j][0] as usize] != 1).collect();
     let mut parts = vec![0; meters.len()];
     spread(random, gained + losses, ENERGY as u64, &mut parts);
     for (&j, part) in meters.iter().zip(parts) {
@@ -116,14 +125,14 @@ fn readings(random: &mut Random, rows: &mut Rows, count: usize, scale: u32, gene
     consumed
 }
 
-/// All energy that generators export, which is the hour's demand.
-fn demand_of(rows: &Rows) -> u64 {
+/// All energy that generators with plants export: what the schedule has to meet.
+fn to_schedule(rows: &Rows) -> u64 {
     let generated = rows.boundaries.iter().filter(|b| rows.agents[b[0] as usize] == 2);
     generated.map(|b| b[3] as u64).sum()
 }
 
 fn offers(random: &mut Random, rows: &mut Rows, count: usize, generators: &[u32]) {
-    let demand = demand_of(rows);
+    let demand = to_schedule(rows);
     let some = random.below(demand + 10);
     let spare = random.pick(&[0, 1, demand / 5, some]);
     let mut parts = vec![0; count.max(1)];

@@ -2,7 +2,7 @@ use borrow.Author.Needs.{needs}
 use native.Mathlib.Omega.{arith}
 use Prim.Native.Nat.{_≤_, _-_}
 use mathlib.Core.Path.{_≡_}
-use Rattle.rows.specs.Rows.{isRetailer}
+use Rattle.rows.specs.Rows.{carriesLosses}
 use Rattle.sums.specs.Sums.{pick}
 use Rattle.sums.specs.Lists.{at, Filled}
 use Rattle.sums.proofs.Fill.{filled-none, filled-more}
@@ -11,7 +11,7 @@ use Rattle.balance.proofs.consumptions.Tie as tie
 
 abbrev Inv-loop : tie.InvT-loop
 Inv-loop kinds imports exports n out₀ a₀ out a =
-    (a ≤ n) × Filled 0 out₀ out a (λ k. pick (isRetailer (at kinds k)) (at imports k - at exports k))
+    (a ≤ n) × Filled 0 out₀ out a (λ k. pick (carriesLosses (at kinds k)) (at imports k - at exports k))
 
 abbrev μ-loop : tie.MeasureT-loop
 μ-loop kinds imports exports n out₀ a₀ out a = n - a

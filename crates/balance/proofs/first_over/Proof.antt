@@ -5,7 +5,7 @@ use mathlib.Core.Bool.{false, _&&_}
 use mathlib.Core.Path.{_≡_, _∙_, sym}
 use borrow.Author.Count.{below-more}
 use lib.Dec.{ltb}
-use Rattle.rows.specs.Rows.{isRetailer}
+use Rattle.rows.specs.Rows.{carriesLosses}
 use Rattle.sums.specs.Lists.{at}
 use Rattle.sums.proofs.First.{first-is, first-none}
 use Rattle.balance.proofs.first_over.Statement.{statement}
@@ -13,7 +13,7 @@ use Rattle.balance.proofs.first_over.Tie as tie
 
 abbrev Inv-loop : tie.InvT-loop
 Inv-loop kinds imports exports n a₀ a =
-    (a ≤ n) × ((k : ℕ) → k < a → (isRetailer (at kinds k) && ltb (at imports k) (at exports k)) ≡ false)
+    (a ≤ n) × ((k : ℕ) → k < a → (carriesLosses (at kinds k) && ltb (at imports k) (at exports k)) ≡ false)
 
 abbrev μ-loop : tie.MeasureT-loop
 μ-loop kinds imports exports n a₀ a = n - a

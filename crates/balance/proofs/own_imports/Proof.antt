@@ -3,7 +3,7 @@ use native.Mathlib.Omega.{arith}
 use Prim.Native.Nat.{_≤_, _-_}
 use mathlib.Core.Path.{_≡_}
 use mathlib.Core.Bool.{not}
-use Rattle.rows.specs.Rows.{isRetailer}
+use Rattle.rows.specs.Rows.{carriesLosses}
 use Rattle.sums.specs.Sums.{pick}
 use Rattle.sums.specs.Lists.{at, Filled}
 use Rattle.sums.proofs.Fill.{filled-none, filled-more}
@@ -12,7 +12,7 @@ use Rattle.balance.proofs.own_imports.Tie as tie
 
 abbrev Inv-loop : tie.InvT-loop
 Inv-loop kinds imports n out₀ a₀ out a =
-    (a ≤ n) × Filled 0 out₀ out a (λ k. pick (not (isRetailer (at kinds k))) (at imports k))
+    (a ≤ n) × Filled 0 out₀ out a (λ k. pick (not (carriesLosses (at kinds k))) (at imports k))
 
 abbrev μ-loop : tie.MeasureT-loop
 μ-loop kinds imports n out₀ a₀ out a = n - a

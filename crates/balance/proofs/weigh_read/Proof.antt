@@ -18,13 +18,14 @@ use Rattle.columns.proofs.Columns.{agents-long, sound}
 use Rattle.hour.specs.Sheet.{Sheet, agents}
 use Rattle.sheet.proofs.Accepted.{accepted-few}
 use Rattle.hour.specs.Sound.{Sound}
-use Rattle.hour.specs.Balance.{ownImport, losses, lossShare, commercial, hourDemand, entering, leaving}
+use Rattle.hour.specs.Balance.{ownImport, losses, lossShare, commercial, hourDemand, injected, entering, leaving}
 use Rattle.hour.specs.Answer.{balanceVerdict}
 use Rattle.hour.proofs.Verdicts.{Balanced, balanced}
-use Rattle.hour.proofs.Bounds.{leaving-le, entering-le, consumed-most}
+use Rattle.hour.proofs.Bounds.{leaving-le, entering-le, exported-le, injected-le, consumed-most}
+use Rattle.hour.proofs.Demand.{small-within}
 use Rattle.hour.proofs.Fits.{commercial-most, demand-most}
 use Rattle.balance.specs.Balances.{zeros, nothing}
-use Rattle.balance.proofs.ByAgent.{entering-is, leaving-is, consumed-is, own-is, commercial-is, fits-by, shares-are, weights-are, demand-is}
+use Rattle.balance.proofs.ByAgent.{entering-is, leaving-is, consumed-is, taken-is, commercial-is, fits-by, shares-are, weights-are, demand-is, injected-is, small-is, target-is}
 use Rattle.balance.proofs.Weighed.{counts-fine, nothing-is}
 use Rattle.balance.proofs.weigh_read.Statement.{statement}
 use Rattle.balance.proofs.weigh_read.Tie as tie
@@ -111,14 +112,14 @@ added-to-read-columns c = commercial-to-read-columns (c .before)
 abbrev added-to-start : tie.After-added → tie.Start
 added-to-start c = commercial-to-start (c .before)
 
-abbrev own-to-start : tie.After-own → tie.Start
-own-to-start c = added-to-start (c .before .before .before .before)
+abbrev taken-to-start : tie.After-taken → tie.Start
+taken-to-start c = added-to-start (c .before .before .before .before)
 
 abbrev own-imports-to-read-columns : tie.After-own-imports → tie.After-read-columns
 own-imports-to-read-columns c = added-to-read-columns (c .before .before .before .before .before)
 
 abbrev own-imports-to-start : tie.After-own-imports → tie.Start
-own-imports-to-start c = own-to-start (c .before)
+own-imports-to-start c = taken-to-start (c .before)
 
 abbrev commercial3-to-added : tie.After-commercial3 → tie.After-added
 commercial3-to-added c = c .before .before .before .before .before .before .before
@@ -129,14 +130,14 @@ commercial3-to-enum-told c = commercial-to-enum-told (commercial3-to-added c .be
 abbrev commercial3-to-start : tie.After-commercial3 → tie.Start
 commercial3-to-start c = own-imports-to-start (c .before .before)
 
-abbrev own3-to-own-imports : tie.After-own3 → tie.After-own-imports
-own3-to-own-imports c = c .before .before .before .before
+abbrev taken3-to-own-imports : tie.After-taken3 → tie.After-own-imports
+taken3-to-own-imports c = c .before .before .before .before
 
-abbrev own3-to-enum-told : tie.After-own3 → tie.After-enum-told
-own3-to-enum-told c = commercial3-to-enum-told (c .before .before)
+abbrev taken3-to-enum-told : tie.After-taken3 → tie.After-enum-told
+taken3-to-enum-told c = commercial3-to-enum-told (c .before .before)
 
-abbrev own3-to-start : tie.After-own3 → tie.Start
-own3-to-start c = commercial3-to-start (c .before .before)
+abbrev taken3-to-start : tie.After-taken3 → tie.Start
+taken3-to-start c = commercial3-to-start (c .before .before)
 
 abbrev total4-to-own-imports : tie.After-total4 → tie.After-own-imports
 total4-to-own-imports c = c .before .before .before .before .before
@@ -145,10 +146,37 @@ abbrev total4-to-added : tie.After-total4 → tie.After-added
 total4-to-added c = commercial3-to-added (c .before .before .before)
 
 abbrev total4-to-enum-told : tie.After-total4 → tie.After-enum-told
-total4-to-enum-told c = own3-to-enum-told (c .before)
+total4-to-enum-told c = taken3-to-enum-told (c .before)
 
 abbrev total4-to-start : tie.After-total4 → tie.Start
-total4-to-start c = own3-to-start (c .before)
+total4-to-start c = taken3-to-start (c .before)
+
+abbrev small-exports-to-total4 : tie.After-small-exports → tie.After-total4
+small-exports-to-total4 c = c .before .before .before .before
+
+abbrev small-exports-to-read-columns : tie.After-small-exports → tie.After-read-columns
+small-exports-to-read-columns c = own-imports-to-read-columns (total4-to-own-imports (small-exports-to-total4 c))
+
+abbrev small-exports-to-start : tie.After-small-exports → tie.Start
+small-exports-to-start c = total4-to-start (small-exports-to-total4 c)
+
+abbrev own-to-small-exports : tie.After-own → tie.After-small-exports
+own-to-small-exports c = c .before .before .before .before
+
+abbrev own-to-total4 : tie.After-own → tie.After-total4
+own-to-total4 c = small-exports-to-total4 (own-to-small-exports c)
+
+abbrev own-to-start : tie.After-own → tie.Start
+own-to-start c = small-exports-to-start (own-to-small-exports c)
+
+abbrev injected4-to-small-exports : tie.After-injected4 → tie.After-small-exports
+injected4-to-small-exports c = own-to-small-exports (c .before .before .before)
+
+abbrev injected4-to-total4 : tie.After-injected4 → tie.After-total4
+injected4-to-total4 c = small-exports-to-total4 (injected4-to-small-exports c)
+
+abbrev injected4-to-start : tie.After-injected4 → tie.Start
+injected4-to-start c = small-exports-to-start (injected4-to-small-exports c)
 
 abbrev sheet : tie.Start → Sheet
 sheet c = columnsOf (c .args .s .now) (c .args .c)
@@ -174,6 +202,9 @@ demands c = c .added .last .1 .1 .1 .0
 
 abbrev owns : tie.After-own-imports → List ℕ
 owns c = c .own-imports .last .1 .1 .1 .0
+
+abbrev injects : tie.After-small-exports → List ℕ
+injects c = c .small-exports .last .1 .1 .1 .0
 
 -- ---- the verdict
 read-columns-requires : tie.Need-read-columns-requires
@@ -317,8 +348,8 @@ demanded c =
 
 own-imports-requires : tie.Need-own-imports-requires
 own-imports-requires c κs = (
-  few (own-to-start c),
-  few (own-to-start c),
+  few (taken-to-start c),
+  few (taken-to-start c),
 )
 
 owned : (c : tie.After-own-imports)
@@ -326,7 +357,7 @@ owned : (c : tie.After-own-imports)
 owned c =
     let r =
     own-imports-to-read-columns c .read-columns .ensures in
-    filled-by 0 _ _ _ _ _ (λ a l. own-is _ a _ _ 0 (r .kind .done a l) (r .took a l)) (c .own-imports .ensures)
+    filled-by 0 _ _ _ _ _ (λ a l. taken-is _ a _ _ 0 (r .kind .done a l) (r .took a l)) (c .own-imports .ensures)
 
 total-requires-3 : tie.Need-total-requires-3
 total-requires-3 c κs = (
@@ -341,12 +372,12 @@ total-requires-3 c κs = (
 
 total-requires-4 : tie.Need-total-requires-4
 total-requires-4 c κs = (
-  few (own3-to-start c),
+  few (taken3-to-start c),
   omega (
     arith,
-    sum-eq _ _ _ (owned (own3-to-own-imports c) .done),
-    demand-is (sheet (own3-to-start c)) _ (count (own3-to-start c)),
-    demand-most _ (ok (own3-to-start c)) (weighed (own3-to-enum-told c)),
+    sum-eq _ _ _ (owned (taken3-to-own-imports c) .done),
+    demand-is (sheet (taken3-to-start c)) _ (count (taken3-to-start c)),
+    demand-most _ (ok (taken3-to-start c)) (weighed (taken3-to-enum-told c)),
   ),
 )
 
@@ -366,9 +397,65 @@ add-demand c =
       demand-most _ (ok (total4-to-start c)) (weighed (total4-to-enum-told c)),
     )
 
+-- ---- small generators, own energy and what central dispatch has to meet
+small-exports-requires : tie.Need-small-exports-requires
+small-exports-requires c κs =
+    let s = total4-to-start (c .before .before .before) in (few s, few s)
+
+delivered : (c : tie.After-small-exports)
+    → Filled 0 zeros (injects c) (small-exports-to-start c .args .c .agents) (injected (sheet (small-exports-to-start c)))
+delivered c =
+    let r = small-exports-to-read-columns c .read-columns .ensures in
+    filled-by 0 _ _ _ _ _ (λ a l. injected-is _ a _ _ (r .kind .done a l) (r .gave a l)) (c .small-exports .ensures)
+
+added-requires-2 : tie.Need-added-requires-2
+added-requires-2 c κs = (
+  (few (own-to-start c), few (own-to-start c)),
+  λ a l.
+      let m : a < agents (sheet (own-to-start c)) = omega (arith, count (own-to-start c)) in
+      fits-by _ _ _ _ (demanded (total4-to-added (own-to-total4 c)) .done a l)
+      (delivered (own-to-small-exports c) .done a l)
+      (omega (
+        arith,
+        commercial-most _ (ok (own-to-start c)) (weighed (total4-to-enum-told (own-to-total4 c))) a m,
+        injected-le (sheet (own-to-start c)) a,
+        exported-le _ (ok (own-to-start c)) a,
+      )),
+)
+
+total-requires-5 : tie.Need-total-requires-5
+total-requires-5 c κs = (
+  few (injected4-to-start c),
+  omega (
+    arith,
+    sum-eq _ _ _ (delivered (injected4-to-small-exports c) .done),
+    small-is (sheet (injected4-to-start c)) _ (count (injected4-to-start c)) (ok (injected4-to-start c)),
+    small-within _ (ok (injected4-to-start c)) (weighed (total4-to-enum-told (injected4-to-total4 c))),
+    demand-most _ (ok (injected4-to-start c)) (weighed (total4-to-enum-told (injected4-to-total4 c))),
+  ),
+)
+
+small : (c : tie.After-total5)
+    → c .total5 .result ≡ sum (injected4-to-start (c .before) .args .c .agents) (injected (sheet (injected4-to-start (c .before))))
+small c = c .total5 .ensures ∙ sum-eq _ _ _ (delivered (injected4-to-small-exports (c .before)) .done)
+
+sub-target : tie.Need-sub-target
+sub-target c =
+    let s = injected4-to-start (c .before) in
+    omega (
+      arith,
+      small c,
+      small-is (sheet s) _ (count s) (ok s),
+      demand (injected4-to-total4 (c .before)),
+      small-within _ (ok s) (weighed (total4-to-enum-told (injected4-to-total4 (c .before)))),
+    )
+
 returns-2 : tie.Need-returns-2
 returns-2 c =
-    let at-own-imports = c .before .before .before .before .before in
+    let at-added2 = c .before .before .before in
+    let at-small-exports = at-added2 .before .before .before .before .before in
+    let at-total4 = at-small-exports .before .before .before .before in
+    let at-own-imports = at-total4 .before .before .before .before .before in
     let at-added = at-own-imports .before .before .before .before .before in
     let at-share = at-added .before .before .before .before .before in
     let at-total2 = at-share .before .before .before in
@@ -377,29 +464,22 @@ returns-2 c =
     let at-imports2 = at-judge .before .before .before .before .before .before .before in
     let at-read-columns = at-imports2 .before .before in
     let at-start = at-read-columns .before .before .before .before .before .before in
-    let all : (k : ℕ) → k ≡ cells
-    (balanceVerdict (sheet at-start)) k = λ k. rw (fine at-enum-told) in
-    let cells =
-    sym (count at-start) ∙ all _ in
+    let all : (k : ℕ) → k ≡ cells (balanceVerdict (sheet at-start)) k = λ k. rw (fine at-enum-told) in
+    let cells = sym (count at-start) ∙ all _ in
     record {
-      answer =
-          verdict at-judge;
-      counts =
-          counts-fine _ _ (fine
-          at-enum-told);
-      kinds =
+      answer = verdict at-judge;
+      counts = counts-fine _ _ (fine at-enum-told);
+      kinds = filled-count 0 _ _ _ _ _ cells (at-read-columns .read-columns .ensures .kind);
+      shares = filled-count 0 _ _ _ _ _ cells (shared at-share);
+      commercial = filled-count 0 _ _ _ _ _ cells (demanded at-added);
+      own =
           filled-count 0 _ _ _ _ _ cells
-          (at-read-columns .read-columns .ensures .kind);
-      shares =
-          filled-count 0 _ _ _ _ _ cells
-          (shared at-share);
-      commercial =
-          filled-count 0 _ _ _ _ _ cells
-          (demanded at-added);
+          (filled-by 0 _ _ _ _ _
+          (λ a l. ap₂ _+_ (demanded at-added .done a l) (delivered at-small-exports .done a l)) (at-added2 .added2 .ensures));
       imports = filled-count 0 _ _ _ _ _ cells (owned at-own-imports);
-      losses =
-          lost at-total2 ∙ all _;
-      demand = demand c ∙ all _;
+      losses = lost at-total2 ∙ all _;
+      demand = demand at-total4 ∙ all _;
+      target = target-is _ _ (count at-start) _ _ (ok at-start) (demand at-total4) (small c) ∙ all _;
     }
 
 pub weigh-read-spec : {M : Type 1} → statement M
@@ -409,4 +489,5 @@ weigh-read-spec =
     read-columns-requires judge-requires (λ c. search needs) (λ c. search needs) (λ c κs. search needs) returns
     total-requires total-requires-2 sub-losses array-share-prefix-consumption slice-aggregate-share
     (λ c. search needs) (λ c κs. search needs) (λ c. search needs) added-requires (λ c. search needs)
-    own-imports-requires total-requires-3 total-requires-4 add-demand returns-2)
+    own-imports-requires total-requires-3 total-requires-4 add-demand (λ c. search needs) small-exports-requires
+    (λ c. search needs) added-requires-2 total-requires-5 sub-target returns-2)

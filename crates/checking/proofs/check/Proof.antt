@@ -14,8 +14,14 @@ use Rattle.checking.proofs.check.Tie as tie
 abbrev enum-told-to-weigh : tie.After-enum-told → tie.After-weigh
 enum-told-to-weigh c = c .before .before .before .before .before
 
+abbrev own-to-weigh : tie.After-own → tie.After-weigh
+own-to-weigh c = enum-told-to-weigh (c .before .before .before .before .before)
+
 abbrev used-to-weigh : tie.After-used → tie.After-weigh
-used-to-weigh c = enum-told-to-weigh (c .before .before .before .before .before .before .before)
+used-to-weigh c = own-to-weigh (c .before .before .before)
+
+abbrev injected-to-weigh : tie.After-injected → tie.After-weigh
+injected-to-weigh c = used-to-weigh (c .before .before .before .before .before)
 
 abbrev lists : tie.Start → Lent
 lists c = let a = c .args in stated (a .figures .now) (a .money .now) (a .schedule .now) (a .amounts .now)
@@ -38,13 +44,18 @@ returns c =
     (turned _ (lists at-start) _ (at-weigh .weigh .ensures) (at-start .args .price) _
     (rw (at-has-room .has-room .ensures) at ((c .before .before) .judge .ensures)) _ (c .enum-told2 .given .1))
 
-consumptions-requires : tie.Need-consumptions-requires
-consumptions-requires c κs = (few (used-to-weigh c), few (used-to-weigh c))
+differences-requires : tie.Need-differences-requires
+differences-requires c κs = (few (used-to-weigh c), few (used-to-weigh c))
+
+differences-requires-2 : tie.Need-differences-requires-2
+differences-requires-2 c κs = (few (injected-to-weigh c), few (injected-to-weigh c))
 
 points-requires : tie.Need-points-requires
 points-requires c κs =
-    let at-consumptions = c .before .before .before .before in
-    let at-kinds = at-consumptions .before .before .before .before .before .before .before in
+    let at-differences2 = c .before .before .before .before .before in
+    let at-differences = at-differences2 .before .before .before .before .before in
+    let at-own = at-differences .before .before .before .before in
+    let at-kinds = at-own .before .before .before .before in
     let at-enum-told = at-kinds .before in
     let at-judge = at-enum-told .before .before in
     let at-has-room = at-judge .before in
@@ -56,15 +67,17 @@ points-requires c κs =
         room-is _ (lists at-start) _ (at-weigh .weigh .ensures) (at-start .args .price) _
             (rw (at-has-room .has-room .ensures) at (at-judge .judge .ensures)) (at-enum-told .enum-told .given .1),
         weighs _ (lists at-start) _ (at-weigh .weigh .ensures) (at-start .args .price) _
-            (rw (at-has-room .has-room .ensures) at (at-judge .judge .ensures)) (at-enum-told .enum-told .given .1) _
-            (at-consumptions .consumptions .ensures),
+            (rw (at-has-room .has-room .ensures) at (at-judge .judge .ensures)) (at-enum-told .enum-told .given .1) _ _
+            (at-differences .differences .ensures) (at-differences2 .differences2 .ensures),
       ),
     )
 
 returns-2 : tie.Need-returns-2
 returns-2 c =
-    let at-ours2 = c .before .before .before .before .before .before .before in
-    let at-enum-told = at-ours2 .before .before .before .before .before .before in
+    let at-differences2 = c .before .before .before .before .before .before in
+    let at-differences = at-differences2 .before .before .before .before .before in
+    let at-own = at-differences .before .before .before .before in
+    let at-enum-told = at-own .before .before .before .before .before in
     let at-judge = at-enum-told .before .before in
     let at-has-room = at-judge .before in
     let at-weigh = at-has-room .before .before in
@@ -76,4 +89,4 @@ pub check-spec : {M : Type 1} → statement M
 check-spec =
     tie.close
     (tie.spec (λ c κs. search needs) has-room-requires judge-requires (λ c. search needs) (λ c. search needs)
-    returns (λ c. search needs) consumptions-requires points-requires returns-2)
+    returns (λ c. search needs) differences-requires (λ c. search needs) differences-requires-2 points-requires returns-2)

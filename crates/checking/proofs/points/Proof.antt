@@ -72,14 +72,14 @@ used : (c : tie.Start) → sum (c .args .c .agents) (at (c .args .used .now)) �
 used c =
     omega (
       arith,
-      used-fits _ (ok c) (lists c) _ _ _ _ (c .pre .1 .1),
+      used-fits _ (ok c) (lists c) _ _ _ _ _ (c .pre .1 .1),
       ap (λ (n : ℕ). sum n (at (c .args .used .now))) (count c),
     )
 
 -- point 21, and that it passed
 shared : (c : tie.After-good2) → c .good2 .result ≡ sharesGood (sheet (good2-to-start c)) (lists (good2-to-start c))
 shared c =
-    c .good2 .ensures ∙ shares-are (sheet (good2-to-start c)) (ok (good2-to-start c)) (lists (good2-to-start c)) _ _ _
+    c .good2 .ensures ∙ shares-are (sheet (good2-to-start c)) (ok (good2-to-start c)) (lists (good2-to-start c)) _ _ _ _
     _ (good2-to-start c .pre .1 .1) _ _ (count (good2-to-start c)) ((c .before) .total .ensures)
 
 passed-21 : (c : tie.Else1) → sharesGood (sheet (else1-to-start c)) (lists (else1-to-start c)) ≡ true
@@ -95,7 +95,7 @@ good-requires c κs =
 returns : tie.Need-returns
 returns c =
     c .refuse .ensures ∙ sym (points-21 (sheet (refuse-to-start c)) (ok (refuse-to-start c))
-    (lists (refuse-to-start c)) _ _ _ _ (refuse-to-start c .pre .1 .1) _
+    (lists (refuse-to-start c)) _ _ _ _ _ (refuse-to-start c .pre .1 .1) _
     (sym (shared (c .before .before)) ∙ not-true ((c .before .before) .good2 .result) ((c .before) .if1 .taken)))
 
 demands-requires : tie.Need-demands-requires
@@ -105,7 +105,7 @@ demands-requires c κs = (
     omega (arith, count (demands-to-start c), demands-to-start c .pre .1 .0 .figures),
     few (demands-to-start c),
   ),
-  λ a m. demand-fits (sheet (demands-to-start c)) (ok (demands-to-start c)) (lists (demands-to-start c)) _ _ _ _
+  λ a m. demand-fits (sheet (demands-to-start c)) (ok (demands-to-start c)) (lists (demands-to-start c)) _ _ _ _ _
       (demands-to-start c .pre .1 .1) (passed-21 (c .before)) a (omega (arith, count (demands-to-start c))),
 )
 
@@ -114,7 +114,7 @@ trades-requires c κs = (
   demands3-to-start c .pre .0,
   (
     demands3-to-start c .pre .1 .0,
-    demands-are (sheet (demands3-to-start c)) (ok (demands3-to-start c)) (lists (demands3-to-start c)) _ _ _ _
+    demands-are (sheet (demands3-to-start c)) (ok (demands3-to-start c)) (lists (demands3-to-start c)) _ _ _ _ _
         (demands3-to-start c .pre .1 .1) (passed-21 (demands3-to-else1 c)) _
         (filled-count 0 _ _ _ _ _ (sym (count (demands3-to-start c))) ((c .before) .demands2 .ensures)),
     (c .before) .demands2 .ensures .long,
@@ -124,7 +124,7 @@ trades-requires c κs = (
 returns-2 : tie.Need-returns-2
 returns-2 c =
     c .trades .ensures ∙ sym (points-on (sheet (trades-to-start c)) (ok (trades-to-start c))
-    (lists (trades-to-start c)) _ _ _ _ (trades-to-start c .pre .1 .1) (passed-21 (trades-to-else1 c)) _)
+    (lists (trades-to-start c)) _ _ _ _ _ (trades-to-start c .pre .1 .1) (passed-21 (trades-to-else1 c)) _)
 
 pub points-spec : {M : Type 1} → statement M
 points-spec =

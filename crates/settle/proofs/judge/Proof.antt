@@ -59,14 +59,14 @@ sheet c = columnsOf (c .args .bytes .now) (c .args .c)
 
 -- the answer, with what is offered and must run in place of the sums
 answer : (c : tie.After-offered)
-    → lateVerdict (offered-to-start c .args .weighed) (offered-to-start c .args .demand)
+    → lateVerdict (offered-to-start c .args .weighed) (offered-to-start c .args .target)
     (c .offered .result .available) (c .offered .result .must) (offered-to-start c .args .room)
-    ≡ lateVerdict (offered-to-start c .args .weighed) (offered-to-start c .args .demand)
+    ≡ lateVerdict (offered-to-start c .args .weighed) (offered-to-start c .args .target)
     (sum (plants (sheet (offered-to-start c))) (at (sheet (offered-to-start c) .available)))
     (sum (plants (sheet (offered-to-start c))) (at (sheet (offered-to-start c) .mustRun)))
     (offered-to-start c .args .room)
 answer c =
-    ap₂ (λ (a m : ℕ). lateVerdict (offered-to-start c .args .weighed) (offered-to-start c .args .demand) a m
+    ap₂ (λ (a m : ℕ). lateVerdict (offered-to-start c .args .weighed) (offered-to-start c .args .target) a m
     (offered-to-start c .args .room)) (c .offered .ensures .0) (c .offered .ensures .1)
 
 enum-told : tie.Need-enum-told
@@ -79,7 +79,7 @@ returns-2 : tie.Need-returns-2
 returns-2 c =
     let a = refuse-to-start c .args in
     let o = refuse-to-offered c .offered .result in
-    c .refuse .ensures ∙ sym (late-10 (a .weighed) (a .demand) (o .available) (o .must) (a .room)
+    c .refuse .ensures ∙ sym (late-10 (a .weighed) (a .target) (o .available) (o .must) (a .room)
     (refuse-to-enum-told c .enum-told .given .1) (omega arith))
     ∙ answer (refuse-to-offered c)
 
@@ -87,7 +87,7 @@ returns-3 : tie.Need-returns-3
 returns-3 c =
     let a = refuse2-to-start c .args in
     let o = refuse2-to-offered c .offered .result in
-    c .refuse2 .ensures ∙ sym (late-13 (a .weighed) (a .demand) (o .available) (o .must) (a .room)
+    c .refuse2 .ensures ∙ sym (late-13 (a .weighed) (a .target) (o .available) (o .must) (a .room)
     (refuse2-to-enum-told c .enum-told .given .1) (omega arith) (omega arith))
     ∙ answer (refuse2-to-offered c)
 
@@ -95,7 +95,7 @@ returns-4 : tie.Need-returns-4
 returns-4 c =
     let a = then3-to-start c .args in
     let o = then3-to-offered c .offered .result in
-    sym (late-fine (a .weighed) (a .demand) (o .available) (o .must) (a .room)
+    sym (late-fine (a .weighed) (a .target) (o .available) (o .must) (a .room)
     (then3-to-enum-told c .enum-told .given .1) (omega arith) (omega arith) (c .if3 .taken))
     ∙ answer (then3-to-offered c)
 
@@ -103,7 +103,7 @@ returns-5 : tie.Need-returns-5
 returns-5 c =
     let a = refuse3-to-start c .args in
     let o = refuse3-to-offered c .offered .result in
-    c .refuse3 .ensures ∙ sym (late-11 (a .weighed) (a .demand) (o .available) (o .must) (a .room)
+    c .refuse3 .ensures ∙ sym (late-11 (a .weighed) (a .target) (o .available) (o .must) (a .room)
     (refuse3-to-enum-told c .enum-told .given .1) (omega arith) (omega arith) ((c .before) .if3 .left))
     ∙ answer (refuse3-to-offered c)
 

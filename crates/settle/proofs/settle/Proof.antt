@@ -9,20 +9,22 @@ use mathlib.Core.Path.{_≡_, refl, _∙_, sym, ap}
 use Rattle.refusals.specs.declared.Verdict.{Verdict}
 use Rattle.rows.specs.Limits.{mostAgents}
 use Rattle.sums.specs.Sums.{sum}
-use Rattle.sums.specs.Lists.{at}
-use Rattle.sums.proofs.Fill.{filled-count}
+use Rattle.sums.specs.Lists.{at, Filled}
+use Rattle.sums.proofs.Fill.{filled-count, front-fits, front-long}
 use Rattle.columns.specs.Columns.{columnsOf}
 use Rattle.columns.proofs.Columns.{agents-long, sound}
 use Rattle.hour.specs.Sheet.{Sheet, agents, plants}
 use Rattle.hour.specs.Sound.{Sound}
+use Rattle.hour.specs.Balance.{commercial}
 use Rattle.hour.specs.Lines.{own, contracted}
+use Rattle.balance.specs.Balances.{zeros}
 use Rattle.hour.specs.Answer.{Lent}
 use Rattle.hour.proofs.Bounds.{price-le}
 use Rattle.balance.proofs.Weighed.{weighed-accepted, weighed-few}
 use Rattle.settle.specs.Parts.{lateVerdict}
 use Rattle.settle.specs.Settled.{lent, verdictOf}
 use Rattle.settle.proofs.Stages.{figures-are, money-are, lines-fit}
-use Rattle.settle.proofs.Judged.{verdict-is, Open, opened, sheet-is, turned-away}
+use Rattle.settle.proofs.Judged.{verdict-is, Open, opened, sheet-is, demands-are, turned-away}
 use Rattle.settle.proofs.settle.Statement.{statement}
 use Rattle.settle.proofs.settle.Tie as tie
 
@@ -42,8 +44,14 @@ enum-told-to-weigh c = c .before .before .before .before .before
 abbrev enum-told-to-start : tie.After-enum-told → tie.Start
 enum-told-to-start c = judge-to-start (c .before .before)
 
+abbrev own-to-enum-told : tie.After-own → tie.After-enum-told
+own-to-enum-told c = c .before .before
+
+abbrev demands2-to-enum-told : tie.After-demands2 → tie.After-enum-told
+demands2-to-enum-told c = own-to-enum-told (c .before)
+
 abbrev trade-arg2-to-enum-told : tie.After-trade-arg2 → tie.After-enum-told
-trade-arg2-to-enum-told c = c .before .before .before .before .before
+trade-arg2-to-enum-told c = demands2-to-enum-told (c .before .before .before .before)
 
 abbrev trade-arg2-to-weigh : tie.After-trade-arg2 → tie.After-weigh
 trade-arg2-to-weigh c = enum-told-to-weigh (trade-arg2-to-enum-told c)
@@ -92,7 +100,7 @@ verdict : (c : tie.After-judge) → c .judge .result ≡ verdictOf (bytes (judge
 verdict c =
     let b = judge-to-weigh c .weigh .result in
     c .judge .ensures
-    ∙ ap (λ (x : Bool). lateVerdict (b .verdict) (b .demand)
+    ∙ ap (λ (x : Bool). lateVerdict (b .verdict) (b .target)
     (sum (plants (sheet (judge-to-weigh c))) (at (sheet (judge-to-weigh c) .available)))
     (sum (plants (sheet (judge-to-weigh c))) (at (sheet (judge-to-weigh c) .mustRun))) x)
     ((c .before) .has-room .ensures)
@@ -120,28 +128,50 @@ clear c = opened _ _ _ _ (fine c)
 ok : (c : tie.After-enum-told) → Sound (sheet (enum-told-to-weigh c))
 ok c = sound _ _ (clear c .read)
 
+demanded : (c : tie.After-enum-told)
+    → Filled 0 zeros (enum-told-to-weigh c .weigh .result .commercial) (enum-told-to-weigh c .weigh .result .counts .agents)
+    (commercial (sheet (enum-told-to-weigh c)))
+demanded c = clear c .commercial
+
+array-share-prefix-demands : tie.Need-array-share-prefix-demands
+array-share-prefix-demands c =
+    front-fits _ _ _ _ (demanded (own-to-enum-told c)) (few (enum-told-to-weigh (own-to-enum-told c)))
+
+slice-aggregate-trade : tie.Need-slice-aggregate-trade
+slice-aggregate-trade c =
+    sym (front-long _ _ _ _ (demanded (demands2-to-enum-told c)) (few (enum-told-to-weigh (demands2-to-enum-told c))))
+
 trade-requires : tie.Need-trade-requires
 trade-requires c κs =
     let o = clear (trade-arg2-to-enum-told c) in (
       o .read,
       (
         record {
-          demand = o .demand;
+          balance = o .balance;
+          target = o .target;
           enough = o .cover .enough;
           runs = o .cover .runs;
           fits = o .room .schedule;
-          commercial = filled-count 0 _ _ _ _ _ (sym (count (trade-arg2-to-weigh c))) (o .commercial);
+          own = filled-count 0 _ _ _ _ _ (sym (count (trade-arg2-to-weigh c))) (o .own);
         },
-        (o .room .amounts, refl),
+        (
+          record {
+            demands =
+                demands-are (sheet (trade-arg2-to-weigh c)) _ _ (count (trade-arg2-to-weigh c))
+                (few (trade-arg2-to-weigh c)) (demanded (trade-arg2-to-enum-told c));
+            fits = o .room .amounts;
+          },
+          refl,
+        ),
       ),
     )
 
 -- what stands in the columns of own energy and of contracts
 abbrev energy : tie.After-trade → List ℕ
-energy c = c .trade .last .1 .1 .1 .0
+energy c = c .trade .last .1 .1 .1 .1 .0
 
 abbrev held : tie.After-trade → List ℕ
-held c = c .trade .last .1 .1 .1 .1 .0
+held c = c .trade .last .1 .1 .1 .1 .1 .0
 
 owns : (c : tie.After-trade) (a : ℕ)
     → a < trade-to-weigh c .weigh .result .counts .agents
@@ -186,7 +216,8 @@ returns-2 c =
     let at-write-lines-arg = at-write-lines .before .before .before .before .before .before .before in
     let at-own3 = at-write-lines-arg .before .before .before .before .before .before .before in
     let at-trade = at-own3 .before in
-    let at-enum-told = at-trade .before .before .before .before .before .before in
+    let at-contracted = at-trade .before .before .before in
+    let at-enum-told = at-contracted .before .before .before .before .before in
     let at-weigh = at-enum-told .before .before .before .before .before in
     let at-start = at-weigh .before .before .before .before .before in
     let w = clear at-enum-told in
@@ -215,5 +246,6 @@ pub settle-spec : {M : Type 1} → statement M
 settle-spec =
     tie.close
     (tie.spec (λ c κs. search needs) has-room-requires judge-requires (λ c. search needs) (λ c κs. search needs)
-    returns (λ c. search needs) (λ c. search needs) (λ c. search needs) trade-requires write-lines-requires
+    returns (λ c. search needs) array-share-prefix-demands slice-aggregate-trade (λ c. search needs) (λ c. search needs)
+    trade-requires write-lines-requires
     (λ c. search needs) (λ c. search needs) (λ c. search needs) (λ c. search needs) returns-2)

@@ -1,6 +1,6 @@
 use borrow.Author.Needs.{needs}
 use native.Mathlib.Omega.{arith}
-use borrow.Author.Tests.{eq-eqb, ne-eqb}
+use mathlib.Core.Path.{_∙_, sym}
 use Rattle.checking.proofs.lines.bought.Statement.{statement}
 use Rattle.checking.proofs.lines.bought.Tie as tie
 
@@ -9,12 +9,17 @@ abbrev wide3-to-else1 : tie.After-wide3 → tie.Else1
 wide3-to-else1 c = c .before .before .before
 
 returns : tie.Need-returns
-returns c = simp (eq-eqb _ _ ((c .before .before) .if1 .taken), c .wide .ensures, (c .before) .less .ensures)
+returns c =
+    simp (
+      sym ((c .before .before .before) .carries-losses .ensures) ∙ (c .before .before) .if1 .taken,
+      c .wide .ensures,
+      (c .before) .less .ensures,
+    )
 
 returns-2 : tie.Need-returns-2
 returns-2 c =
     simp (
-      ne-eqb _ _ (wide3-to-else1 c .if1 .left),
+      sym ((wide3-to-else1 c .before) .carries-losses .ensures) ∙ wide3-to-else1 c .if1 .left,
       c .wide3 .ensures,
       (c .before) .wide2 .ensures,
       (c .before .before) .less2 .ensures,
@@ -23,5 +28,5 @@ returns-2 c =
 pub bought-spec : {M : Type 1} → statement M
 bought-spec =
     tie.close
-    (tie.spec (λ c κs. search needs) (λ c κs. search needs) (λ c κs. search needs) (λ c κs. search needs)
+    (tie.spec (λ c κs. search needs) (λ c κs. search needs) (λ c κs. search needs) (λ c κs. search needs) (λ c κs. search needs)
     (λ c κs. search needs) (λ c. search needs) returns returns-2)

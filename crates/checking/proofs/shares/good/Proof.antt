@@ -7,7 +7,7 @@ use lib.Dec.{eqb}
 use Rattle.sums.specs.Lists.{at}
 use Rattle.sums.specs.Sums.{sum}
 use Rattle.sums.proofs.Sums.{sum-none, sum-step}
-use Rattle.rows.specs.Rows.{isRetailer}
+use Rattle.rows.specs.Rows.{carriesLosses}
 use Rattle.statement.specs.Decide.{every}
 use Rattle.statement.specs.Tests.{shareTest}
 use Rattle.checking.specs.Passes.{room}
@@ -17,7 +17,7 @@ use Rattle.checking.proofs.shares.good.Tie as tie
 
 abbrev Inv-loop : tie.InvT-loop
 Inv-loop kinds used n losses consumed figures fine₀ sum₀ a₀ fine s a =
-    (a ≤ n) × (fine ≡ every a (λ k. shareTest (isRetailer (at kinds k)) losses (at used k) consumed (at figures (6 * k))))
+    (a ≤ n) × (fine ≡ every a (λ k. shareTest (carriesLosses (at kinds k)) losses (at used k) consumed (at figures (6 * k))))
     × (s ≡ sum a (λ k. at figures (6 * k))) × (s ≤ room a)
 
 abbrev μ-loop : tie.MeasureT-loop

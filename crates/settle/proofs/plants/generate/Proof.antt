@@ -19,7 +19,7 @@ use Rattle.hour.proofs.Bounds.{scheduled-le}
 use Rattle.dispatch.specs.Dispatch.{Dispatched}
 use Rattle.settle.specs.Parts.{spareOf}
 use Rattle.settle.proofs.Fronts.{holders-are, flags-are, musts-are, offers-are, spare-are}
-use Rattle.settle.proofs.Stages.{scheduled-at, scheduled-are, price-is, plants-count, own-is, demand-small}
+use Rattle.settle.proofs.Stages.{scheduled-at, scheduled-are, price-is, plants-count, own-is, own-small}
 use Rattle.settle.proofs.plants.generate.Statement.{statement}
 use Rattle.settle.proofs.plants.generate.Tie as tie
 
@@ -187,14 +187,14 @@ spare c = spare-are _ _ _ _ (few (columns-to-start c)) (c .columns .ensures .4)
 
 -- the demand that the must-runs leave
 rest : (c : tie.After-less)
-    → c .less .result ≡ less-to-start c .args .demand
+    → c .less .result ≡ less-to-start c .args .target
     - sum (plants (sheet (less-to-start c))) (at (sheet (less-to-start c) .mustRun))
 rest c =
     let at-columns = c .before .before .before .before .before .before in
     let at-slice-known = at-columns .before .before .before .before .before .before .before in
     let at-start = at-slice-known .before .before in
     c .less .ensures
-    ∙ ap (λ (m : ℕ). at-start .args .demand - m)
+    ∙ ap (λ (m : ℕ). at-start .args .target - m)
     (at-columns .columns .ensures .5 ∙ rw (count at-start) (sum-eq _ _ _ (λ i l. sym (must-at _ _ i l))))
 
 -- ---- the schedule
@@ -299,8 +299,8 @@ tally-requires : tie.Need-tally-requires
 tally-requires c κs =
     plants-count _ (ok (tally-arg2-to-start c)) _ (count (tally-arg2-to-start c)) _ _ (room (tally-arg2-to-start c))
     (filled (tally-arg2-to-add-musts c)) _ _ (holders (tally-arg2-to-columns c))
-    (tally-arg2-to-start c .pre .1 .commercial .long)
-    (demand-small _ (ok (tally-arg2-to-start c)) _ _ _ (tally-arg2-to-start c .pre .1))
+    (tally-arg2-to-start c .pre .1 .own .long)
+    (own-small _ (ok (tally-arg2-to-start c)) _ _ _ (tally-arg2-to-start c .pre .1))
 
 array-share-prefix-offers-2 : tie.Need-array-share-prefix-offers-2
 array-share-prefix-offers-2 c =
@@ -333,7 +333,7 @@ returns c =
       own =
           own-is _ (ok (price-to-start c)) _ (count (price-to-start c)) _ _ (room (price-to-start c)) f _
           (price-to-start c .args .own .now) (price-to-tally c .tally .last .1 .1 .0)
-          (holders (price-to-columns c)) (price-to-start c .pre .1 .commercial) (price-to-tally c .tally .ensures);
+          (holders (price-to-columns c)) (price-to-start c .pre .1 .own) (price-to-tally c .tally .ensures);
       schedule = filled-count 0 _ _ _ _ _ (sym (count (price-to-start c))) f;
     }
 

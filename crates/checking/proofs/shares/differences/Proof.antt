@@ -4,15 +4,15 @@ use Prim.Native.Nat.{_≤_, _-_}
 use mathlib.Core.Path.{_≡_}
 use Rattle.sums.specs.Lists.{at, Filled}
 use Rattle.sums.proofs.Fill.{filled-none, filled-more}
-use Rattle.checking.proofs.shares.consumptions.Statement.{statement}
-use Rattle.checking.proofs.shares.consumptions.Tie as tie
+use Rattle.checking.proofs.shares.differences.Statement.{statement}
+use Rattle.checking.proofs.shares.differences.Tie as tie
 
 abbrev Inv-loop : tie.InvT-loop
-Inv-loop commercial shares n out₀ a₀ out a =
-    (a ≤ n) × Filled 0 out₀ out a (λ k. at commercial k - at shares k)
+Inv-loop xs ys n out₀ a₀ out a =
+    (a ≤ n) × Filled 0 out₀ out a (λ k. at xs k - at ys k)
 
 abbrev μ-loop : tie.MeasureT-loop
-μ-loop commercial shares n out₀ a₀ out a = n - a
+μ-loop xs ys n out₀ a₀ out a = n - a
 
 -- ways back: X-to-Y leads from the place X of the code to the earlier place Y
 abbrev less-to-loop : tie.After-less Inv-loop μ-loop → tie.At-loop Inv-loop μ-loop
@@ -40,8 +40,8 @@ returns c =
     let at-start = c .before .before .before in
     let e : (c .before) .loop .a ≡ at-start .args .n = omega arith in rw e at ((c .before) .loop .inv .1)
 
-pub consumptions-spec : {M : Type 1} → statement M
-consumptions-spec =
+pub differences-spec : {M : Type 1} → statement M
+differences-spec =
     tie.close
     (tie.spec Inv-loop μ-loop loop-holds (λ c. search needs) (λ c. search needs) (λ c. search needs)
     (λ c. search needs) (λ c κs. search needs) mul-out slice-write-out (λ c. search needs)

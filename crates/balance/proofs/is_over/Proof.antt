@@ -1,0 +1,6 @@
+use borrow.Author.Needs.{needs}
+use Rattle.balance.proofs.is_over.Statement.{statement}
+use Rattle.balance.proofs.is_over.Tie as tie
+
+pub is-over-spec : {M : Type 1} → statement M
+is-over-spec = tie.close (tie.spec (λ c κs. search needs) (λ c. cc))

@@ -1,0 +1,16 @@
+use borrow.Author.Needs.{needs}
+use mathlib.Core.Path.{_∙_, sym}
+use Rattle.sums.specs.Sums.{pick}
+use Rattle.balance.proofs.of_small.Statement.{statement}
+use Rattle.balance.proofs.of_small.Tie as tie
+
+returns : tie.Need-returns
+unfolding pick
+returns c = simp (sym ((c .before) .is-outside .ensures) ∙ c .if1 .taken)
+
+returns-2 : tie.Need-returns-2
+unfolding pick
+returns-2 c = simp (sym ((c .before) .is-outside .ensures) ∙ c .if1 .left)
+
+pub of-small-spec : {M : Type 1} → statement M
+of-small-spec = tie.close (tie.spec (λ c κs. search needs) returns returns-2)
