@@ -1,5 +1,5 @@
 // The ideal dispatch of one hour and its price, for any number of plants. No order of the plants is made: the price at which
-// the demand is met is found by halving, and one pass then fills the schedule.
+// the demand crosses the offers is found by passes, and one pass then fills the schedule.
 use refusals::Refusal;
 use refusals::Verdict;
 ghost use mathlib.Core.Path.{_≡_};
@@ -8,9 +8,9 @@ ghost use lib.Dec.{ltb, eqb};
 ghost use lib.ListN.{length};
 ghost use Rattle.sums.specs.Sums.{sum, peak, pick};
 ghost use Rattle.sums.specs.Lists.{at, Filled};
+ghost use Rattle.crossing.specs.Crossing.{taken};
 ghost use Rattle.merit.specs.Merit.{schedule};
-ghost use Rattle.merit.specs.Levels.{cheaper, Marginal, portion};
-ghost use Rattle.dispatch.specs.Dispatch.{Dispatched, priceOf};
+ghost use Rattle.dispatch.specs.Dispatch.{plantCount, Dispatched, priceOf};
 
 // The smaller of two counts.
 fn fewer(x: usize, y: usize) -> usize
@@ -33,27 +33,6 @@ fn left_over(available: &[u32], n: usize, demand: u32) -> u32
     left
 }
 
-// The highest offer.
-fn highest(offers: &[u32], n: usize) -> u32
-    requires { ⌜ n ≤ length (now offers) ⌝ }
-    ensures { λ r. ⌜ r ≡ peak n (at (now (offers .entry))) ⌝ }
-{
-    let mut top = 0;
-    let mut i = 0;
-    while i < n {
-        top = sums::most(top, offers[i]);
-        i += 1;
-    }
-    top
-}
-
-// What a plant of offer y and availability v offers below the price x.
-fn below(y: u32, x: u32, v: u32) -> u32
-    ensures { λ r. ⌜ r ≡ pick (ltb y x) v ⌝ }
-{
-    if y < x { v } else { 0 }
-}
-
 // What a plant of offer y and availability v offers at the price x.
 fn level_with(y: u32, x: u32, v: u32) -> u32
     ensures { λ r. ⌜ r ≡ pick (eqb y x) v ⌝ }
@@ -61,41 +40,9 @@ fn level_with(y: u32, x: u32, v: u32) -> u32
     if y == x { v } else { 0 }
 }
 
-// What the plants below the price x leave of the demand.
-fn left_below(offers: &[u32], available: &[u32], n: usize, demand: u32, x: u32) -> u32
-    requires { ⌜ (n ≤ length (now offers)) × (n ≤ length (now available)) ⌝ }
-    ensures { λ r. ⌜ r ≡ demand - cheaper (at (now (offers .entry))) (at (now (available .entry))) n x ⌝ }
-{
-    let mut left = demand;
-    let mut i = 0;
-    while i < n {
-        left = sums::less(left, below(offers[i], x, available[i]));
-        i += 1;
-    }
-    left
-}
-
-// A marginal price, by halving: it lies from `low` to `high`.
-fn marginal(offers: &[u32], available: &[u32], n: usize, demand: u32) -> u32
-    requires { ⌜ (n ≤ length (now offers)) × (n ≤ length (now available)) ⌝ }
-    ensures { λ r. ⌜ Marginal (at (now (offers .entry))) (at (now (available .entry))) n demand r ⌝ }
-{
-    let mut low = 0;
-    let mut high = highest(offers, n);
-    while low < high {
-        let middle = high - (high - low) / 2;
-        if left_below(offers, available, n, demand, middle) == 0 {
-            high = middle - 1;
-        } else {
-            low = middle;
-        }
-    }
-    low
-}
-
 // What a plant of offer y and availability v delivers at the marginal price m.
 fn portion_at(y: u32, m: u32, v: u32, left: u32) -> u32
-    ensures { λ r. ⌜ r ≡ portion y m v left ⌝ }
+    ensures { λ r. ⌜ r ≡ taken y m v left ⌝ }
 {
     if y < m {
         return v;
@@ -108,11 +55,11 @@ fn portion_at(y: u32, m: u32, v: u32, left: u32) -> u32
 
 // Writes the schedule of the n plants.
 fn fill(offers: &[u32], available: &[u32], n: usize, demand: u32, out: &mut [u32])
-    requires { ⌜ (n ≤ length (now offers)) × (n ≤ length (now available)) × (n ≤ length (now out)) ⌝ }
+    requires { ⌜ (n ≡ plantCount (now offers) (now available)) × (n ≤ length (now out)) ⌝ }
     ensures { λ _. ⌜ Filled 0 (now (out .entry)) (now (out .exit)) n (schedule (at (now (offers .entry))) (at (now (available .entry))) n demand) ⌝ }
 {
-    let m = marginal(offers, available, n, demand);
-    let mut left = left_below(offers, available, n, demand, m);
+    let m = crossing::reach(offers, available, demand);
+    let mut left = crossing::left_below(offers, available, demand, m);
     let mut i = 0;
     while i < n {
         let y = offers[i];

@@ -4,14 +4,15 @@ use Prim.Native.Nat.{ℕ, zero, suc, _+_, _-_, _≤_, _<_, min, zero-le}
 use native.Mathlib.Nat.{min-le-left}
 use native.Mathlib.Omega.{arith}
 use native.Mathlib.Decide.{decLt, ℕ-discrete}
-use mathlib.Core.Path.{_≡_, ap, ap₂, _∙_}
+use mathlib.Core.Path.{_≡_, ap, ap₂, _∙_, sym}
 use lib.Dec.{ltb, eqb}
-use Rattle.sums.specs.Sums.{sum, pick}
+use Rattle.sums.specs.Sums.{sum, pick, keyed}
 use Rattle.sums.proofs.Sums.{sum-eq, sum-add, sum-zero, sum-term}
 use Rattle.sums.proofs.Picks.{pick-lt, pick-ge, pick-eq, pick-ne, pick-suc, pick-at}
+use Rattle.crossing.specs.Crossing.{heldBelow, Crossing, taken}
+use Rattle.crossing.proofs.Crossing.{below-zero, below-suc, taken-is}
 use Rattle.merit.specs.Merit.{ahead, schedule, Possible, none, ByMerit}
-use Rattle.merit.specs.Levels.{cheaper, level, Marginal, portion}
-use Rattle.merit.proofs.Levels.{ahead-is, ahead-dearer, cheaper-zero, cheaper-suc, cheaper-mono, level-front}
+use Rattle.merit.proofs.Levels.{ahead-standing, ahead-is, ahead-dearer}
 
 module _ (p a : ℕ → ℕ) (n d : ℕ) where
   pub schedule-within : (i : ℕ) → schedule p a n d i ≤ a i
@@ -19,8 +20,9 @@ module _ (p a : ℕ → ℕ) (n d : ℕ) where
   schedule-within i = min-le-left _ _
 
   -- plants of one price x, filled in row order on top of g
-  fill-level : (g x k : ℕ) → sum k (λ i. pick (eqb (p i) x) (min (a i) (d - (g + level p a x i)))) + min d g ≡ min d (g + level p a x k)
-  unfolding sum level
+  fill-level : (g x k : ℕ)
+      → sum k (λ i. pick (eqb (p i) x) (min (a i) (d - (g + keyed p a i x)))) + min d g ≡ min d (g + keyed p a k x)
+  unfolding sum keyed
   fill-level g x zero = omega arith
   fill-level g x (suc k) = go (ℕ-discrete (p k) x) (fill-level g x k)
     where
@@ -28,30 +30,39 @@ module _ (p a : ℕ → ℕ) (n d : ℕ) where
       L = sum k (λ j. pick (eqb (p j) x) (a j))
 
       S : ℕ
-      S = sum k (λ i. pick (eqb (p i) x) (min (a i) (d - (g + level p a x i))))
+      S = sum k (λ i. pick (eqb (p i) x) (min (a i) (d - (g + keyed p a i x))))
 
-      go : Dec (p k ≡ x) → S + min d g ≡ min d (g + L) → S + pick (eqb (p k) x) (min (a k) (d - (g + L))) + min d g ≡ min d (g + (L + pick (eqb (p k) x) (a k)))
+      go : Dec (p k ≡ x)
+          → S + min d g ≡ min d (g + L)
+          → S + pick (eqb (p k) x) (min (a k) (d - (g + L))) + min d g ≡ min d (g + (L + pick (eqb (p k) x) (a k)))
       go (yes e) h = rw (pick-eq (p k) x (a k) e, pick-eq (p k) x (min (a k) (d - (g + L))) e) (omega arith)
       go (no e) h = rw (pick-ne (p k) x (a k) e, pick-ne (p k) x (min (a k) (d - (g + L))) e) (omega arith)
 
-  schedule-at : (x i : ℕ) → i < n → pick (eqb (p i) x) (schedule p a n d i) ≡ pick (eqb (p i) x) (min (a i) (d - (cheaper p a n x + level p a x i)))
+  schedule-at : (x i : ℕ)
+      → i < n
+      → pick (eqb (p i) x) (schedule p a n d i)
+      ≡ pick (eqb (p i) x) (min (a i) (d - (heldBelow p a n x + keyed p a i x)))
   unfolding schedule
-  schedule-at x i l = rw (ahead-is p a n i (omega arith)) (pick-at (p i) x (λ y. min (a i) (d - (cheaper p a n y + level p a y i))))
+  schedule-at x i l =
+      rw (ahead-is p a n i (omega arith)) (pick-at (p i) x (λ y. min (a i) (d - (heldBelow p a n y + keyed p a i y))))
 
   -- what the plants below the price x deliver
-  sold-below : (x : ℕ) → sum n (λ i. pick (ltb (p i) x) (schedule p a n d i)) ≡ min d (cheaper p a n x)
+  sold-below : (x : ℕ) → sum n (λ i. pick (ltb (p i) x) (schedule p a n d i)) ≡ min d (heldBelow p a n x)
   sold-below zero =
       sum-zero n _ (λ i l. pick-ge (p i) 0 (schedule p a n d i) zero-le)
-      ∙ omega (arith, cheaper-zero p a n)
+      ∙ omega (arith, below-zero p a n)
   sold-below (suc x) =
       omega (
         arith,
-        sum-eq n (λ i. pick (ltb (p i) (suc x)) (schedule p a n d i)) (λ i. pick (ltb (p i) x) (schedule p a n d i) + pick (eqb (p i) x) (schedule p a n d i)) (λ i l. pick-suc (p i) x (schedule p a n d i)),
+        sum-eq n (λ i. pick (ltb (p i) (suc x)) (schedule p a n d i))
+            (λ i. pick (ltb (p i) x) (schedule p a n d i) + pick (eqb (p i) x) (schedule p a n d i))
+            (λ i l. pick-suc (p i) x (schedule p a n d i)),
         sum-add n (λ i. pick (ltb (p i) x) (schedule p a n d i)) (λ i. pick (eqb (p i) x) (schedule p a n d i)),
-        sum-eq n (λ i. pick (eqb (p i) x) (schedule p a n d i)) (λ i. pick (eqb (p i) x) (min (a i) (d - (cheaper p a n x + level p a x i)))) (λ i l. schedule-at x i l),
+        sum-eq n (λ i. pick (eqb (p i) x) (schedule p a n d i))
+            (λ i. pick (eqb (p i) x) (min (a i) (d - (heldBelow p a n x + keyed p a i x)))) (λ i l. schedule-at x i l),
         sold-below x,
-        fill-level (cheaper p a n x) x n,
-        cheaper-suc p a n x,
+        fill-level (heldBelow p a n x) x n,
+        below-suc p a n x,
       )
 
   -- below a price above all offers stands every plant
@@ -59,18 +70,28 @@ module _ (p a : ℕ → ℕ) (n d : ℕ) where
   all-below f = sum-eq n _ _ (λ i l. pick-lt (p i) (suc (sum n p)) (f i) (omega (arith, sum-term n i p l)))
 
   pub schedule-sum : sum n (schedule p a n d) ≡ min d (sum n a)
-  unfolding cheaper
+  unfolding heldBelow
   schedule-sum = omega (arith, all-below (schedule p a n d), all-below a, sold-below (suc (sum n p)))
 
   pub schedule-possible : d ≤ sum n a → Possible none a n d (schedule p a n d)
   schedule-possible h =
-      record { enough = λ i l. zero-le; within = λ i l. omega (arith, schedule-within i); meets = omega (arith, schedule-sum) }
+      record {
+        enough = λ i l. zero-le;
+        within = λ i l. omega (arith, schedule-within i);
+        meets = omega (arith, schedule-sum);
+      }
 
   pub schedule-merit : ByMerit p none a n (schedule p a n d)
   unfolding schedule
   schedule-merit = record { order = λ i j li lj hi hj. go i j li lj hi hj (decLt (p j) (p i)) }
     where
-      go : (i j : ℕ) → i < n → j < n → 0 < min (a i) (d - ahead p a n i) → min (a j) (d - ahead p a n j) < a j → Dec (p j < p i) → p i ≤ p j
+      go : (i j : ℕ)
+          → i < n
+          → j < n
+          → 0 < min (a i) (d - ahead p a n i)
+          → min (a j) (d - ahead p a n j) < a j
+          → Dec (p j < p i)
+          → p i ≤ p j
       go i j li lj hi hj (yes m) = absurd (omega (arith, ahead-dearer p a n i j li lj m))
       go i j li lj hi hj (no m) = omega arith
 
@@ -85,31 +106,13 @@ schedule-eq p p′ a a′ n d i l g h =
     ap₂ (λ (u v : ℕ). min u (d - v)) (h i l)
     (sum-eq n _ _ (λ j k. rw (g j k, g i l, h j k)))
 
--- ---- by a marginal price
-module _ (y m v left : ℕ) where
-  pub portion-below : y < m → portion y m v left ≡ v
-  unfolding portion
-  portion-below h = omega (arith, pick-lt y m v h, pick-ne y m (min v left) (λ q. omega arith))
-
-  pub portion-level : y ≡ m → portion y m v left ≡ min v left
-  unfolding portion
-  portion-level h = omega (arith, pick-ge y m v (omega arith), pick-eq y m (min v left) h)
-
-  pub portion-above : m ≤ y → (y ≡ m → ⊥) → portion y m v left ≡ 0
-  unfolding portion
-  portion-above h e = omega (arith, pick-ge y m v h, pick-ne y m (min v left) e)
-
--- plant i delivers its portion of what is left of the demand when its row is reached
-pub schedule-portion : (p a : ℕ → ℕ) (n d m : ℕ) → Marginal p a n d m → (i left : ℕ) → i < n → left ≡ d - cheaper p a n m - level p a m i
-    → portion (p i) m (a i) left ≡ schedule p a n d i
+-- plant i delivers what it has below the price m at which the demand crosses the offers, at m what is left when its row is reached
+pub schedule-taken : (p a : ℕ → ℕ) (n d m : ℕ)
+    → Crossing p a n d m
+    → (i left : ℕ)
+    → i < n
+    → left ≡ d - heldBelow p a n m - keyed p a i m
+    → taken (p i) m (a i) left ≡ schedule p a n d i
 unfolding schedule
-schedule-portion p a n d m r i left l e =
-    go (decLt (p i) m) (decLt m (p i)) (ahead-is p a n i (omega arith)) (level-front p a n i l)
-  where
-    go : Dec (p i < m) → Dec (m < p i) → ahead p a n i ≡ cheaper p a n (p i) + level p a (p i) i → level p a (p i) i + a i ≤ level p a (p i) n
-        → portion (p i) m (a i) left ≡ min (a i) (d - ahead p a n i)
-    go (yes h) k s f = omega (arith, portion-below (p i) m (a i) left h, cheaper-suc p a n (p i), cheaper-mono p a n (suc (p i)) m h, r .wanted)
-    go (no h) (yes k) s f = omega (arith, portion-above (p i) m (a i) left (omega arith) (λ q. omega arith), r .enough i l k)
-    go (no h) (no k) s f =
-        let q : p i ≡ m = omega arith in
-        omega (arith, portion-level (p i) m (a i) left q, ap (λ (x : ℕ). cheaper p a n x + level p a x i) q)
+schedule-taken p a n d m r i left l e =
+    taken-is p a n d m r i left l e ∙ ap (λ (x : ℕ). min (a i) (d - x)) (sym (ahead-standing p a n i))

@@ -1,2 +1,1 @@
 pub mod Merit
-pub mod Levels

@@ -15,17 +15,13 @@ use Rattle.refusals.specs.Refusals.{badLayout, noRoom, refusal}
 use Rattle.refusals.specs.declared.Verdict.{Verdict}
 use Rattle.rows.specs.Limits.{mostAgents}
 use Rattle.printing.specs.Page.{printVerdict, Prints}
+use Rattle.printing.specs.Put.{Listed}
 use Rattle.printing.specs.declared.Printed.{Printed}
 
 -- any two outcomes that meet the promise are equal
 pub one-outcome : {v : Verdict} {text before : List ℕ} {r r′ : Printed} {after after′ : List ℕ}
     → Prints v text before r after → Prints v text before r′ after′ → (r ≡ r′) × (after ≡ after′)
 one-outcome p q = (p .answer ∙ sym (q .answer), filled-unique 0 _ _ _ _ _ (p .bytes) (q .bytes))
-
-pub record Listed (kinds figures : ℕ) (money : ℕ) : Type 0 where
-  pub few : kinds ≤ mostAgents
-  pub cells : 6 * kinds ≤ figures
-  pub owed : kinds ≤ money
 
 pub listed : (k f m : ℕ) → (leb k mostAgents && leb (6 * k) f && leb k m) ≡ true → Listed k f m
 listed k f m e =

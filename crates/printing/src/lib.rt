@@ -1,5 +1,5 @@
-// The page of an hour as bytes. Text is built from its end in a scratch array, since digits come least first, and then copied:
-// the lent buffer is untouched until it is known to be long enough.
+// The page of an hour as bytes. A line is built from its end in a scratch array, since digits come least first, and then taken: once
+// for its length, so that the lent buffer is untouched until it is known to be long enough, and once to be copied there.
 ghost use mathlib.Core.Path.{_≡_};
 ghost use mathlib.Core.Bool.{true, false, _&&_};
 ghost use mathlib.Core.List.{_∷_, [], _++_};
@@ -10,8 +10,8 @@ ghost use lib.ListN.{length, drop, getD};
 ghost use Rattle.sums.specs.Lists.{at, Filled};
 ghost use Rattle.rows.specs.Limits.{mostAgents};
 ghost use Rattle.printing.specs.Text.{spell, decimal, minus, signed, spaced, linesTo};
-ghost use Rattle.printing.specs.Page.{lineOf, hourText, refusedText, pageOf, printVerdict, Prints};
-ghost use Rattle.printing.specs.Put.{Put};
+ghost use Rattle.printing.specs.Page.{lineOf, refusedText, pageOf, printVerdict, Prints};
+ghost use Rattle.printing.specs.Put.{Put, hourHead, headOf, linesIn, Listed, Appended};
 use hour::Summary;
 use refusals::Refusal;
 use rows::Agent;
@@ -158,34 +158,19 @@ fn put_line(
     put_spaced(s, j, &numbers)
 }
 
-// The agents' lines at the end of `s`.
-fn put_lines(s: &mut [u8], kinds: &[u32], figures: &[u32], money: &[i64]) -> usize
-    requires { ⌜ (169 * length (now kinds) ≤ length (now s)) × (length (now kinds) ≤ mostAgents) × (6 * length (now kinds) ≤ length (now figures)) × (length (now kinds) ≤ length (now money)) ⌝ }
-    ensures { λ r. ⌜ Put (linesTo (lineOf (now (kinds .entry)) (now (figures .entry)) (now (money .entry))) (length (now (kinds .entry))) []) (now (s .exit)) (length (now (s .entry))) (169 * length (now (kinds .entry))) r ⌝ }
+// The first line of a settled hour at the end of `s`.
+fn put_hour(s: &mut [u8], r: Summary) -> usize
+    requires { ⌜ 68 ≤ length (now s) ⌝ }
+    ensures { λ o. ⌜ (drop o (now (s .exit)) ≡ hourHead r) × (o ≤ length (now (s .entry))) ⌝ }
 {
-    let mut i = s.len();
-    let mut a = kinds.len();
-    while a > 0 {
-        a -= 1;
-        i = put_line(s, i, kinds, figures, money, a);
-    }
-    i
-}
-
-// The page of a settled hour at the end of `s`.
-fn put_hour(s: &mut [u8], r: Summary, kinds: &[u32], figures: &[u32], money: &[i64]) -> usize
-    requires { ⌜ (169 * length (now kinds) + 68 ≤ length (now s)) × (length (now kinds) ≤ mostAgents) × (6 * length (now kinds) ≤ length (now figures)) × (length (now kinds) ≤ length (now money)) ⌝ }
-    ensures { λ o. ⌜ (drop o (now (s .exit)) ≡ hourText r (now (kinds .entry)) (now (figures .entry)) (now (money .entry))) × (o ≤ length (now (s .entry))) ⌝ }
-{
-    let i = put_lines(s, kinds, figures, money);
-    let j = put_byte(s, i, b'\n');
-    let k = put_decimal(s, j, sums::wide(r.losses));
+    let i = put_byte(s, s.len(), b'\n');
+    let j = put_decimal(s, i, sums::wide(r.losses));
     let numbers = [r.price, r.demand];
-    let l = put_spaced(s, k, &numbers);
-    put_word(s, l, b"hour ")
+    let k = put_spaced(s, j, &numbers);
+    put_word(s, k, b"hour ")
 }
 
-// The page of a refusal at the end of `s`.
+// The line of a refusal at the end of `s`.
 fn put_refused(s: &mut [u8], r: Summary) -> usize
     requires { ⌜ 50 ≤ length (now s) ⌝ }
     ensures { λ o. ⌜ (drop o (now (s .exit)) ≡ refusedText r) × (o ≤ length (now (s .entry))) ⌝ }
@@ -197,25 +182,113 @@ fn put_refused(s: &mut [u8], r: Summary) -> usize
     put_word(s, k, b"refused ")
 }
 
-// The page at the end of `s`.
-fn put_page(s: &mut [u8], r: Summary, kinds: &[u32], figures: &[u32], money: &[i64]) -> usize
-    requires { ⌜ (169 * length (now kinds) + 68 ≤ length (now s)) × (length (now kinds) ≤ mostAgents) × (6 * length (now kinds) ≤ length (now figures)) × (length (now kinds) ≤ length (now money)) ⌝ }
-    ensures { λ o. ⌜ (drop o (now (s .exit)) ≡ pageOf r (now (kinds .entry)) (now (figures .entry)) (now (money .entry))) × (o ≤ length (now (s .entry))) ⌝ }
+// The first line of the page at the end of `s`.
+fn put_head(s: &mut [u8], r: Summary) -> usize
+    requires { ⌜ 68 ≤ length (now s) ⌝ }
+    ensures { λ o. ⌜ (drop o (now (s .exit)) ≡ headOf r) × (o ≤ length (now (s .entry))) ⌝ }
 {
     if r.number == 0 {
-        put_hour(s, r, kinds, figures, money)
+        put_hour(s, r)
     } else {
         put_refused(s, r)
     }
 }
 
-// What stands in `s` from `from` on, copied to the front of `out`.
-fn copy_out(s: &[u8], from: usize, out: &mut [u8])
-    requires { ⌜ (from ≤ length (now s)) × (length (now s) ≤ from + length (now out)) ⌝ }
-    ensures { λ _. ⌜ Filled 0 (now (out .entry)) (now (out .exit)) (length (now (s .entry)) - from) (at (drop from (now (s .entry)))) ⌝ }
+// How many lines are behind it: one an agent, and none behind a refusal.
+fn lines_in(r: Summary, agents: usize) -> usize
+    ensures { λ n. ⌜ n ≡ linesIn r agents ⌝ }
 {
-    for i in 0..s.len() - from {
-        out[i] = s[from + i];
+    if r.number == 0 { agents } else { 0 }
+}
+
+// ---- how long the page is
+
+// The scratch for a line has room for each of its numbers as if it had 64 bits, a byte behind each and one before it.
+const HEAD: usize = 68;
+
+const LINE: usize = 169;
+
+fn head_length(r: Summary) -> usize
+    ensures { λ n. ⌜ (n ≡ length (headOf r)) × (n ≤ 68) ⌝ }
+{
+    let mut s = [0u8; HEAD];
+    HEAD - put_head(&mut s, r)
+}
+
+fn line_length(kinds: &[u32], figures: &[u32], money: &[i64], a: usize) -> usize
+    requires { ⌜ Listed (length (now kinds)) (length (now figures)) (length (now money)) × (a < length (now kinds)) ⌝ }
+    ensures { λ n. ⌜ (n ≡ length (lineOf (now (kinds .entry)) (now (figures .entry)) (now (money .entry)) a [])) × (n ≤ 169) ⌝ }
+{
+    let mut s = [0u8; LINE];
+    LINE - put_line(&mut s, LINE, kinds, figures, money, a)
+}
+
+fn lines_length(kinds: &[u32], figures: &[u32], money: &[i64], n: usize) -> usize
+    requires { ⌜ Listed (length (now kinds)) (length (now figures)) (length (now money)) × (n ≤ length (now kinds)) ⌝ }
+    ensures { λ k. ⌜ (k ≡ length (linesTo (lineOf (now (kinds .entry)) (now (figures .entry)) (now (money .entry))) n [])) × (k ≤ 169 * n) ⌝ }
+{
+    let mut k = 0;
+    let mut a = 0;
+    while a < n {
+        k += line_length(kinds, figures, money, a);
+        a += 1;
+    }
+    k
+}
+
+// ---- the page in the lent buffer
+
+// What stands in `s` from `from` on, copied to byte k of `out` and those behind it.
+fn copy_out(s: &[u8], from: usize, out: &mut [u8], k: usize)
+    requires { ⌜ (from ≤ length (now s)) × (k + (length (now s) - from) ≤ length (now out)) ⌝ }
+    ensures { λ _. ⌜ Appended (drop from (now (s .entry))) k (now (out .entry)) (now (out .exit)) ⌝ }
+{
+    let mut i = 0;
+    while i < s.len() - from {
+        out[k + i] = s[from + i];
+        i += 1;
+    }
+}
+
+fn write_head(r: Summary, out: &mut [u8])
+    requires { ⌜ length (headOf r) ≤ length (now out) ⌝ }
+    ensures { λ _. ⌜ Appended (headOf r) 0 (now (out .entry)) (now (out .exit)) ⌝ }
+{
+    let mut s = [0u8; HEAD];
+    let from = put_head(&mut s, r);
+    copy_out(&s, from, out, 0);
+}
+
+// Agent a's line from byte k on; handed back is where it ends.
+fn write_line(
+    kinds: &[u32],
+    figures: &[u32],
+    money: &[i64],
+    a: usize,
+    out: &mut [u8],
+    k: usize,
+) -> usize
+    requires { ⌜ Listed (length (now kinds)) (length (now figures)) (length (now money)) × (a < length (now kinds)) ⌝ }
+    requires { ⌜ k + length (lineOf (now kinds) (now figures) (now money) a []) ≤ length (now out) ⌝ }
+    ensures { λ e. ⌜ (e ≡ k + length (lineOf (now (kinds .entry)) (now (figures .entry)) (now (money .entry)) a [])) × Appended (lineOf (now (kinds .entry)) (now (figures .entry)) (now (money .entry)) a []) k (now (out .entry)) (now (out .exit)) ⌝ }
+{
+    let mut s = [0u8; LINE];
+    let from = put_line(&mut s, LINE, kinds, figures, money, a);
+    copy_out(&s, from, out, k);
+    k + (LINE - from)
+}
+
+// The first n lines, from byte `from` on.
+fn write_lines(kinds: &[u32], figures: &[u32], money: &[i64], n: usize, out: &mut [u8], from: usize)
+    requires { ⌜ Listed (length (now kinds)) (length (now figures)) (length (now money)) × (n ≤ length (now kinds)) ⌝ }
+    requires { ⌜ from + length (linesTo (lineOf (now kinds) (now figures) (now money)) n []) ≤ length (now out) ⌝ }
+    ensures { λ _. ⌜ Appended (linesTo (lineOf (now (kinds .entry)) (now (figures .entry)) (now (money .entry))) n []) from (now (out .entry)) (now (out .exit)) ⌝ }
+{
+    let mut k = from;
+    let mut a = 0;
+    while a < n {
+        k = write_line(kinds, figures, money, a, out, k);
+        a += 1;
     }
 }
 
@@ -239,15 +312,16 @@ pub fn print(r: Summary, kinds: &[u32], figures: &[u32], money: &[i64], out: &mu
             place: 0,
         });
     }
-    // Each number put as if it had 64 bits, 169 bytes a line and 68 at the head: more than any page has.
-    let mut s = [0u8; 169 * Agent::MOST + 68];
-    let from = put_page(&mut s, r, kinds, figures, money);
-    if out.len() < s.len() - from {
+    let n = lines_in(r, kinds.len());
+    let head = head_length(r);
+    let size = head + lines_length(kinds, figures, money, n);
+    if out.len() < size {
         return Printed::Refused(Refusal {
             number: Refusal::ROOM,
             place: 0,
         });
     }
-    copy_out(&s, from, out);
-    Printed::Done(s.len() - from)
+    write_head(r, out);
+    write_lines(kinds, figures, money, n, out, head);
+    Printed::Done(size)
 }

@@ -1,41 +1,49 @@
-use Prim.Native.Nat.{_≤_, _<_, _-_, _*_, _+_}
-use mathlib.Core.Path.{_≡_, refl, sym, ap, _∙_}
+use Prim.Native.Nat.{ℕ, _≤_, _<_, _-_, _+_}
+use mathlib.Core.Path.{_≡_, refl, sym, _∙_}
+use mathlib.Core.List.{List, _++_}
 use native.Mathlib.Omega.{arith}
 use denote.Ref.{now}
-use lib.ListN.{length, drop, getD}
+use lib.ListN.{length, drop, length-drop, length-set}
 use lib.Seq.{getD-drop}
 use Rattle.sums.specs.Lists.{Filled, at}
-use Rattle.sums.proofs.Fill.{filled-none, filled-more}
+use Rattle.printing.proofs.Front.{behind-none, behind-more}
 use Rattle.printing.proofs.copy_out.Statement.{statement}
 use Rattle.printing.proofs.copy_out.Tie as tie
 
 abbrev Inv-loop : tie.InvT-loop
-Inv-loop s from out₀ i₀ i-end out i = (i ≤ i-end) × Filled 0 out₀ out i (at (drop from s))
+Inv-loop s from out₀ k i₀ out i =
+    (i ≤ length s - from) × (length out ≡ length out₀)
+    × ((start front : List ℕ)
+    → length front ≡ k
+    → Filled 0 start out₀ k (at front)
+    → Filled 0 start out (k + i) (at (front ++ drop from s)))
 
 abbrev μ-loop : tie.MeasureT-loop
-μ-loop s from out₀ i₀ i-end out i = i-end - i
+μ-loop s from out₀ k i₀ out i = length s - from - i
 
-slice-write-out : tie.Need-slice-write-out Inv-loop μ-loop
-slice-write-out c = let l = (c .before .before) .loop .inv .1 .long in omega arith
+loop-holds : tie.Need-loop-holds Inv-loop μ-loop
+loop-holds c = (omega arith, refl, λ start front e f. behind-none start _ front _ _ e f)
 
 loop-again : tie.Need-loop-again Inv-loop μ-loop
 loop-again c =
-    let l = (c .before .before) .loop .inv .1 .long in (
+    let now-at = c .before .before .loop in
+    let a = c .before .before .before .args in (
       omega arith,
-      filled-more 0 _ _ _ _ _ (omega arith)
-          (sym (getD-drop ((c .before .before .before) .args .from) (now ((c .before .before .before) .args .s))
-          ((c .before .before) .loop .i) 0)) ((c .before .before) .loop .inv .1),
+      length-set (now-at .out) _ _ ∙ now-at .inv .1,
+      λ start front e f.
+          behind-more start _ front (drop (a .from) (now (a .s))) _ _ _ e (omega (arith, now-at .inv .1))
+          (sym (getD-drop (a .from) (now (a .s)) (now-at .i) 0)) (now-at .inv .2 start front e f),
     )
 
 returns : tie.Need-returns Inv-loop μ-loop
-returns c =
-    let e : (c .before) .loop .i ≡ length (now ((c .before .before) .args .s))
-    - (c .before .before) .args .from = omega arith in
-    rw e at ((c .before) .loop .inv .1)
+returns c start front e f =
+    let a = c .before .before .args in
+    let l : c .before .loop .i
+    ≡ length (drop (a .from) (now (a .s))) = omega (arith, length-drop (a .from) (now (a .s))) in
+    rw l at (c .before .loop .inv .2 start front e f)
 
 pub copy-out-spec : {M : Type 1} → statement M
 copy-out-spec =
     tie.close
-    (tie.spec Inv-loop μ-loop (λ c. omega arith) (λ c. (omega arith, filled-none 0 _ _)) (λ c. omega arith)
-    (λ c. omega arith) slice-write-out (λ c. omega arith) (λ c. omega arith) loop-again
-    (λ c. c .before .loop .inv .1 .long) returns)
+    (tie.spec Inv-loop μ-loop loop-holds (λ c. omega arith) (λ c. omega arith) (λ c. omega arith) (λ c. omega arith)
+    (λ c. omega arith) (λ c. omega arith) (λ c. omega arith) loop-again (λ c. c .before .loop .inv .1) returns)

@@ -1,16 +1,21 @@
-use Prim.Native.Nat.{ℕ, _≤_, _<_, _+_, _-_, _*_}
-use mathlib.Core.Path.{_≡_, refl, sym, ap, _∙_}
+use Prim.Native.Nat.{ℕ, _≤_, _<_, _+_, _*_}
+use mathlib.Core.Path.{_≡_, refl, sym, _∙_}
 use mathlib.Core.Bool.{true, false, _&&_}
-use mathlib.Core.List.{List}
+use mathlib.Core.List.{List, [], _++_}
 use native.Mathlib.Omega.{arith}
 use borrow.Author.Needs.{needs}
 use borrow.Author.Tests.{not-true, not-false}
 use denote.Ref.{now}
 use lib.Dec.{leb}
-use lib.ListN.{length, drop}
+use lib.ListN.{length}
+use Rattle.sums.specs.Lists.{at, Filled}
+use Rattle.sums.proofs.Fill.{filled-none, filled-count}
 use Rattle.rows.specs.Limits.{mostAgents}
-use Rattle.printing.specs.Page.{pageOf}
-use Rattle.printing.proofs.Printing.{listed, bad-lists, no-room, all-printed, size}
+use Rattle.printing.specs.Text.{linesTo}
+use Rattle.printing.specs.Page.{lineOf, pageOf}
+use Rattle.printing.specs.Put.{headOf, Listed, Appended}
+use Rattle.printing.proofs.Printing.{listed, bad-lists, no-room, all-printed}
+use Rattle.printing.proofs.Front.{page-text, page-long, lines-most, appended-more}
 use Rattle.printing.proofs.print.Statement.{statement}
 use Rattle.printing.proofs.print.Tie as tie
 
@@ -18,11 +23,8 @@ use Rattle.printing.proofs.print.Tie as tie
 abbrev else1-to-start : tie.Else1 → tie.Start
 else1-to-start c = c .before .before .before .before .before
 
-abbrev s-to-start : tie.After-s → tie.Start
-s-to-start c = else1-to-start (c .before)
-
-abbrev put-page-to-start : tie.After-put-page → tie.Start
-put-page-to-start c = s-to-start (c .before)
+abbrev lines-length-to-else1 : tie.After-lines-length → tie.Else1
+lines-length-to-else1 c = c .before .before .before
 
 -- the lists are good past the first test
 good : (c : tie.Else1)
@@ -31,50 +33,94 @@ good : (c : tie.Else1)
     && leb (length (now (else1-to-start c .args .kinds))) (length (now (else1-to-start c .args .money)))) ≡ true
 good c = sym ((c .before) .lists-good .ensures) ∙ not-false (c .before .lists-good .result) (c .if1 .left)
 
--- the scratch is as long as it was made
-long : (c : tie.After-put-page) → length (c .put-page .last .0) ≡ (169 * mostAgents + 68)
-long c = search needs
+lists : (c : tie.Else1)
+    → Listed (length (now (else1-to-start c .args .kinds))) (length (now (else1-to-start c .args .figures)))
+    (length (now (else1-to-start c .args .money)))
+lists c = listed _ _ _ (good c)
 
 -- how long the page is
-page-size : (c : tie.After-put-page)
-    → (169 * mostAgents + 68) - c .put-page .result
-    ≡ length (pageOf (put-page-to-start c .args .r) (now (put-page-to-start c .args .kinds))
-    (now (put-page-to-start c .args .figures)) (now (put-page-to-start c .args .money)))
-page-size c = let e = size (c .put-page .last .0) (c .put-page .result) _ (c .put-page .ensures .0) in rw (long c) at e
+page-size : (c : tie.After-lines-length)
+    → c .before .head-length .result + c .lines-length .result
+    ≡ length (pageOf (else1-to-start (lines-length-to-else1 c) .args .r)
+    (now (else1-to-start (lines-length-to-else1 c) .args .kinds))
+    (now (else1-to-start (lines-length-to-else1 c) .args .figures))
+    (now (else1-to-start (lines-length-to-else1 c) .args .money)))
+page-size c =
+    let a = else1-to-start (lines-length-to-else1 c) .args in
+    let long =
+    page-long (now (a .kinds)) (now (a .figures)) (now (a .money)) (a .r) _ (c .before .before .lines-in .ensures) in
+    omega (arith, c .before .head-length .ensures .0, c .lines-length .ensures .0)
 
 returns : tie.Need-returns
 returns c =
     bad-lists _ _ _ _ _ (sym ((c .before) .lists-good .ensures)
     ∙ not-true (c .before .lists-good .result) (c .if1 .taken))
 
-put-page-requires : tie.Need-put-page-requires
-put-page-requires c κs =
-    let a = s-to-start c .args in
-    let l = listed (length (now (a .kinds))) (length (now (a .figures))) (length (now (a .money))) (good (c .before)) in
-    omega arith
+lines-length-requires : tie.Need-lines-length-requires
+lines-length-requires c κs =
+    let at-else1 = c .before .before in
+    let a = else1-to-start at-else1 .args in
+    (lists at-else1, omega (arith, c .before .lines-in .ensures, lines-most (a .r) (length (now (a .kinds)))))
+
+add-size : tie.Need-add-size
+add-size c =
+    let at-else1 = lines-length-to-else1 c in
+    let a = else1-to-start at-else1 .args in
+    omega (
+      arith,
+      lists at-else1 .few,
+      c .before .before .lines-in .ensures,
+      lines-most (a .r) (length (now (a .kinds))),
+      c .before .head-length .ensures .1,
+      c .lines-length .ensures .1,
+    )
 
 returns-2 : tie.Need-returns-2
 returns-2 c =
-    let at-else1 = c .before .before .before .before in
-    no-room _ _ _ _ _ (good at-else1) (rw (page-size (c .before .before)) at (c .if2 .taken))
+    no-room _ _ _ _ _ (good (lines-length-to-else1 (c .before))) (rw (page-size (c .before)) at (c .if2 .taken))
+
+write-head-requires : tie.Need-write-head-requires
+write-head-requires c κs = omega (arith, c .before .before .before .head-length .ensures .0)
+
+write-lines-requires : tie.Need-write-lines-requires
+write-lines-requires c κs =
+    let at-head = c .before .before .before in
+    let at-length = at-head .before .before .before in
+    let at-else1 = lines-length-to-else1 at-length in
+    let a = else1-to-start at-else1 .args in
+    let n = at-length .before .before .lines-in .ensures in
+    let l = at-head .write-head .kept .0 in (
+      (lists at-else1, omega (arith, n, lines-most (a .r) (length (now (a .kinds))))),
+      omega (arith, at-length .lines-length .ensures .0),
+    )
 
 returns-3 : tie.Need-returns-3
 returns-3 c =
-    let at-else2 = c .before .before .before .before .before in
-    let at-put-page = at-else2 .before .before in
-    let at-else1 = at-put-page .before .before in
-    let at-start = at-else1 .before .before .before .before .before in
-    let p = at-put-page .put-page in
+    let at-lines = c .before .before in
+    let at-head = at-lines .before .before .before .before in
+    let at-else2 = at-head .before .before in
+    let at-length = at-else2 .before in
+    let a = at-length .before .before .before .before .before .before .before .before .args in
+    let n : ℕ = at-length .before .before .lines-in .result in
+    let head : List ℕ = headOf (a .r) in
+    let lines : List ℕ = linesTo (lineOf (now (a .kinds)) (now (a .figures)) (now (a .money))) n [] in
+    let whole =
+    appended-more head lines 0 _ _ _ _ (omega (arith, at-length .before .head-length .ensures .0))
+    (at-head .write-head .ensures)
+    (at-lines .write-lines .ensures) in
     let text =
-    pageOf (at-start .args .r) (now (at-start .args .kinds)) (now (at-start .args .figures))
-    (now (at-start .args .money)) in
-    let f = rw (long at-put-page, p .ensures .0) at ((c .before .before) .copy-out .ensures) in
-    rw (page-size at-put-page)
-    (all-printed _ _ _ text _ (good at-else1) _ (rw (page-size at-put-page) at (at-else2 .if2 .left))
-    (rw (page-size at-put-page) at f))
+    page-text (now (a .kinds)) (now (a .figures)) (now (a .money)) (a .r) n
+    (at-length .before .before .lines-in .ensures) in
+    let filled =
+    filled-count 0 _ _ (0 + length (head ++ lines)) (length (head ++ lines)) _ (omega arith)
+    (whole (now (a .out)) [] refl (filled-none 0 _ _)) in
+    rw (page-size at-length)
+    (all-printed _ _ _ _ _ (good (at-length .before .before .before)) _
+    (rw (page-size at-length) at (at-else2 .if2 .left)) (rw (sym text) at filled))
 
 pub print-spec : {M : Type 1} → statement M
 print-spec =
     tie.close
-    (tie.spec (λ c κs. search needs) returns (λ c. search needs) put-page-requires (λ c. search needs) returns-2
-    (λ c. search needs) (λ c κs. search needs) (λ c. search needs) (λ c. search needs) returns-3)
+    (tie.spec (λ c κs. search needs) returns (λ c κs. search needs) (λ c κs. search needs) lines-length-requires
+    add-size
+    returns-2 write-head-requires write-lines-requires (λ c. search needs) returns-3)
