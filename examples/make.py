@@ -37,6 +37,21 @@ SMALL_GENERATOR = dict(
     contracts=[(0, 1, 1, 6000, 400), (3, 1, 3, 7000, 100), (0, 1, 3, 7000, 50), (3, 2, 2, 6500, 500), (4, 2, 1, 6400, 80)],
 )
 
+# a plant and a contract for every reason that document 02, P3, has
+REASONS = dict(
+    WORKED_HOUR,
+    plants=[(0, 0, 0, 5000, 700), (3, 0, 0, 8000, 500), (0, 1, 60, 9000, 100), (3, 0, 0, 9500, 100), (0, 0, 0, 7000, 0)],
+    contracts=[
+        (0, 1, 1, 6000, 400),
+        (3, 1, 3, 6900, 60),
+        (0, 1, 3, 7000, 100),
+        (3, 1, 3, 7000, 50),
+        (0, 1, 3, 7500, 80),
+        (3, 2, 2, 6500, 500),
+        (0, 2, 2, 6600, 100),
+    ],
+)
+
 EMPTY_HOUR = {section: [] for section in SECTIONS}
 
 
@@ -90,6 +105,8 @@ def main():
     (FOLDER / "must-run.txt").write_text(dump(MUST_RUN))
     (FOLDER / "small-generator.sheet").write_bytes(sheet_bytes(SMALL_GENERATOR))
     (FOLDER / "small-generator.txt").write_text(dump(SMALL_GENERATOR))
+    (FOLDER / "reasons.sheet").write_bytes(sheet_bytes(REASONS))
+    (FOLDER / "reasons.txt").write_text(dump(REASONS))
     (FOLDER / "march.sheet").write_bytes(sheet_bytes(MARCH))
     (FOLDER / "empty-hour.sheet").write_bytes(sheet_bytes(EMPTY_HOUR))
 

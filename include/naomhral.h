@@ -40,8 +40,9 @@
 #define NAOMHRAL_WRITE_ANSWER 3
 #define NAOMHRAL_PAGE_ANSWER 3
 #define NAOMHRAL_CHECK_ANSWER 2
+#define NAOMHRAL_WHY_ANSWER 8
 
-/* The refusals. Number 12 of docs/USING.md, a row or section that isn't there, comes from none of these functions. */
+/* The refusals. */
 enum {
     NAOMHRAL_SETTLED = 0,
     NAOMHRAL_BAD_LENGTH = 1,
@@ -55,6 +56,7 @@ enum {
     NAOMHRAL_UNSHARED = 9,
     NAOMHRAL_UNCOVERED = 10,
     NAOMHRAL_NO_ROOM = 11,
+    NAOMHRAL_NOT_THERE = 12, /* of a reason alone: no such plant or contract */
     NAOMHRAL_OVERRUN = 13, /* must-runs sum to more than the plants have to meet; after 10 and before 11 */
     /* of a statement alone: the first of the five points that fails */
     NAOMHRAL_SHARES_DIFFER = 21,
@@ -62,6 +64,25 @@ enum {
     NAOMHRAL_PRICE_DIFFERS = 23,
     NAOMHRAL_AMOUNTS_DIFFER = 24,
     NAOMHRAL_LINES_DIFFER = 25
+};
+
+/* Why a plant is scheduled as it is: the first that holds. */
+enum {
+    NAOMHRAL_PLANT_NOTHING = 1, /* nothing available */
+    NAOMHRAL_PLANT_FULL = 2, /* scheduled to the full */
+    NAOMHRAL_PLANT_MUST = 3, /* only its must-run, which is above 0 */
+    NAOMHRAL_PLANT_LAST = 4, /* partly scheduled, the last one needed */
+    NAOMHRAL_PLANT_BEYOND = 5 /* not reached */
+};
+
+/* Why a contract is assigned its amount. */
+enum {
+    NAOMHRAL_CONTRACT_FIXED = 1,
+    NAOMHRAL_CONTRACT_NEEDED = 2, /* conditional and needed */
+    NAOMHRAL_CONTRACT_COVERED = 3, /* conditional, and the energy ahead already covered the demand */
+    NAOMHRAL_CONTRACT_FITS = 4, /* demanded, in a price group that fits */
+    NAOMHRAL_CONTRACT_SHARES = 5, /* in the group that shares */
+    NAOMHRAL_CONTRACT_DEARER = 6 /* in a dearer group */
 };
 
 #ifdef __cplusplus
@@ -145,6 +166,27 @@ uint32_t naomhral_page(
     size_t out_length, /* NAOMHRAL_PAGE_MOST is always enough */
     uint32_t *answer, /* number, place, length written (0 if refused) */
     size_t answer_length /* at least 3 */
+);
+
+/* Why a plant is scheduled as it is. Refusals 1 to 10 and 13 of the sheet, then 12, place the number asked for. */
+uint32_t naomhral_why_plant(
+    const uint8_t *sheet, /* the sheet's bytes */
+    size_t sheet_length, /* how many */
+    uint32_t plant, /* its number, from 0 */
+    uint32_t *answer, /* number, place, reason, then scheduled, available and must-run (kWh), its offer and the bolsa price (centavos
+                         per kWh); all but the first two are 0 if refused */
+    size_t answer_length /* at least 8 */
+);
+
+/* Why a contract is assigned its amount. Refusals as above. */
+uint32_t naomhral_why_contract(
+    const uint8_t *sheet, /* the sheet's bytes */
+    size_t sheet_length, /* how many */
+    uint32_t contract, /* its number, from 0 */
+    uint32_t *answer, /* number, place, reason, then quantity and amount (kWh), price (centavos per kWh), and two values in kWh: of reasons
+                         2 and 3 the quantities ahead and the buyer's commercial demand, of 4 to 6 what is left when its price group
+                         is reached and what the group asks in all; all but the first two are 0 if refused */
+    size_t answer_length /* at least 8 */
 );
 
 #ifdef __cplusplus

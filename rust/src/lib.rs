@@ -20,11 +20,14 @@
 mod answers;
 pub mod fast;
 pub mod plain;
+pub mod plain_reasons;
 pub mod raw;
+mod reasons;
 pub mod sheets;
 pub mod statement;
 
 pub use answers::{Counts, Refusal, Summary};
+pub use reasons::{why_contract, why_plant, ContractCase, ContractReason, PlantCase, PlantReason};
 
 pub const AGENTS_MOST: usize = 64;
 pub const BOUNDARIES_MOST: usize = 256;

@@ -60,4 +60,20 @@ extern "C" {
         answer: *mut u32,
         answer_length: usize,
     ) -> u32;
+
+    pub fn naomhral_why_plant(
+        sheet: *const u8,
+        sheet_length: usize,
+        plant: u32,
+        answer: *mut u32,
+        answer_length: usize,
+    ) -> u32;
+
+    pub fn naomhral_why_contract(
+        sheet: *const u8,
+        sheet_length: usize,
+        contract: u32,
+        answer: *mut u32,
+        answer_length: usize,
+    ) -> u32;
 }

@@ -4,7 +4,7 @@ use std::fs;
 use std::path::{Path, PathBuf};
 use std::process::Command;
 
-const NAMES: [&str; 4] = ["worked-hour", "must-run", "march", "empty-hour"];
+const NAMES: [&str; 5] = ["worked-hour", "must-run", "march", "empty-hour", "reasons"];
 
 fn repository() -> PathBuf {
     Path::new(env!("CARGO_MANIFEST_DIR")).join("..")
@@ -69,6 +69,7 @@ fn dumps() {
     assert_eq!(dumped(&text("examples/worked-hour.txt")), sheet);
     assert_eq!(dumped(&text("docs/FORMAT.md")), sheet);
     assert_eq!(dumped(&text("examples/must-run.txt")), bytes("examples/must-run.sheet"));
+    assert_eq!(dumped(&text("examples/reasons.txt")), bytes("examples/reasons.sheet"));
     assert!(text("docs/USING.md").contains(&text("examples/worked-hour.page")));
     assert!(text("docs/USING.md").contains(&text("examples/must-run.page")));
 }
@@ -101,7 +102,7 @@ fn the_c_example() {
         .status()
         .expect("cc, the C compiler");
     assert!(compiled.success());
-    for (name, status) in NAMES.into_iter().zip([0, 0, 1, 0]) {
+    for (name, status) in NAMES.into_iter().zip([0, 0, 1, 0, 0]) {
         let run = Command::new(&program).arg(repository().join(format!("examples/{name}.sheet"))).output().unwrap();
         let printed = String::from_utf8(run.stdout).unwrap();
         let own = printed.strip_prefix(&text(&format!("examples/{name}.page"))).expect(name);

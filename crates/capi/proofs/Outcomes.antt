@@ -9,6 +9,7 @@ use Rattle.hour.specs.Answer.{Lent}
 use Rattle.writing.specs.Numbers.{Numbers}
 use Rattle.settle.specs.Settled.{lent}
 use Rattle.capi.specs.Told.{Told, BytesTold, ShareTold, ReadTold, CheckTold, WriteTold, SettleTold, PageTold}
+use Rattle.capi.specs.Why.{WhyPlantTold, WhyContractTold}
 
 pub share-unique : (amount : ℕ) (weights before after after′ : List ℕ) (r r′ : ℕ)
     → ShareTold amount weights before r after
@@ -34,6 +35,18 @@ pub check-unique : (sheet : List ℕ) (price : ℕ) (l : Lent) (before after aft
     → CheckTold sheet price l before r′ after′
     → (r ≡ r′) × (after ≡ after′)
 check-unique sheet price l before after after′ r r′ = told-unique _ _ before after after′ r r′
+
+pub why-plant-unique : (sheet : List ℕ) (plant : ℕ) (before after after′ : List ℕ) (r r′ : ℕ)
+    → WhyPlantTold sheet plant before r after
+    → WhyPlantTold sheet plant before r′ after′
+    → (r ≡ r′) × (after ≡ after′)
+why-plant-unique sheet plant before after after′ r r′ = told-unique _ _ before after after′ r r′
+
+pub why-contract-unique : (sheet : List ℕ) (contract : ℕ) (before after after′ : List ℕ) (r r′ : ℕ)
+    → WhyContractTold sheet contract before r after
+    → WhyContractTold sheet contract before r′ after′
+    → (r ≡ r′) × (after ≡ after′)
+why-contract-unique sheet contract before after after′ r r′ = told-unique _ _ before after after′ r r′
 
 bytes-unique : (v : Verdict) (size : ℕ) (byte : ℕ → ℕ) (before list : List ℕ) (r r′ : ℕ)
     (after after′ list₁ list₂ : List ℕ)

@@ -9,6 +9,9 @@ ghost use Rattle.writing.specs.Numbers.{numbers};
 ghost use Rattle.capi.specs.Told.{ShareTold, ReadTold, WriteTold, SettleTold, CheckTold, PageTold};
 ghost use Rattle.checking.specs.Check.{stated};
 ghost use Rattle.settle.specs.Settled.{lent};
+
+pub mod why;
+
 use printing::Printed;
 use refusals::Refusal;
 use refusals::Verdict;

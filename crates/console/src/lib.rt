@@ -1,5 +1,6 @@
 // What the desk program does. It only reads, calls and writes, so no contract can say more of it than that it is safe and ends.
 mod files;
+mod why;
 
 use input::Input;
 use libc::STDERR_FILENO;
@@ -38,13 +39,17 @@ fn settle_input() {
 fn say_usage() {
     io::write_all(
         STDERR_FILENO,
-        b"desk: takes no words; it reads an hour sheet from standard input and prints its page: desk < SHEET\n",
+        b"desk: desk < SHEET prints the page of an hour sheet; desk why SHEET plant 3 says why it got what it got\n",
     );
 }
 
 // What the first word asks for, with `count` words in all, the program's own name among them; else how the program is used.
 fn run_word(word: &[u8], count: usize) {
-    say_usage();
+    if words::is_same(word, b"why") {
+        why::run(count);
+    } else {
+        say_usage();
+    }
 }
 
 // With no words the page of the sheet on standard input; else what the first word asks for.

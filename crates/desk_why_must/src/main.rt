@@ -1,0 +1,4 @@
+// The desk program, asked why a plant that must run got what it got.
+fn main() {
+    console::run();
+}

@@ -1,0 +1,4 @@
+// The desk program, asked of a contract that isn't there.
+fn main() {
+    console::run();
+}
