@@ -33,6 +33,8 @@
 #define NAOMHRAL_AMOUNTS_MOST 256 /* cells: one for each of 256 contracts */
 #define NAOMHRAL_PAGE_MOST 5120 /* bytes: no page is longer */
 #define NAOMHRAL_WEIGHTS_MOST 256 /* weights that sharing takes */
+#define NAOMHRAL_BOOK 124 /* cells of a day's book: five for each of 24 places, and four totals */
+#define NAOMHRAL_BOOK_TOTALS 120 /* the first of the four totals */
 
 /* The cells of the answers. */
 #define NAOMHRAL_SUMMARY 5
@@ -41,6 +43,7 @@
 #define NAOMHRAL_PAGE_ANSWER 3
 #define NAOMHRAL_CHECK_ANSWER 2
 #define NAOMHRAL_WHY_ANSWER 8
+#define NAOMHRAL_ENTRY_ANSWER 6
 
 /* The refusals. */
 enum {
@@ -55,9 +58,10 @@ enum {
     NAOMHRAL_BAD_GAIN = 8,
     NAOMHRAL_UNSHARED = 9,
     NAOMHRAL_UNCOVERED = 10,
-    NAOMHRAL_NO_ROOM = 11,
-    NAOMHRAL_NOT_THERE = 12, /* of a reason alone: no such plant or contract */
+    NAOMHRAL_NO_ROOM = 11, /* a lent list is too short; of a day's book also: its cells are no book's */
+    NAOMHRAL_NOT_THERE = 12, /* of a reason: no such plant or contract; of a day's book: an hour outside 0 to 23 */
     NAOMHRAL_OVERRUN = 13, /* must-runs sum to more than the plants have to meet; after 10 and before 11 */
+    NAOMHRAL_OVER_BOOK = 16, /* an hour's demand, losses or bought over 4,000,000,000, or its price over 1,000,000 */
     /* of a statement alone: the first of the five points that fails */
     NAOMHRAL_SHARES_DIFFER = 21,
     NAOMHRAL_SCHEDULE_DIFFERS = 22,
@@ -187,6 +191,51 @@ uint32_t naomhral_why_contract(
                          2 and 3 the quantities ahead and the buyer's commercial demand, of 4 to 6 what is left when its price group
                          is reached and what the group asks in all; all but the first two are 0 if refused */
     size_t answer_length /* at least 8 */
+);
+
+/* A day's book is NAOMHRAL_BOOK cells that the caller keeps. Place h, of hour h, has the cells 5 h to 5 h + 4: held (1, and 0 where the
+ * place is empty), demand, losses and bought in kWh, price in centavos per kWh; an empty place has zeros. Behind the places stand the
+ * totals of the day: demand, losses, bought (kWh), bought money (centavos). Read any cell at any time, and write none: the totals are
+ * brought up to date by the calls, never added up anew. Nothing else is asked of the cells: a call looks at its place and at the totals,
+ * and refuses with 11 where calls from an empty book can't have left them so; then no cell changes. The place of 12 and 16 is the hour,
+ * that of 11 is 0. Cells behind the first 124 are not looked at. */
+
+/* Makes the cells an empty book. Refusal 11: fewer than 124 cells. */
+uint32_t naomhral_book_empty(
+    uint64_t *book, /* the cells */
+    size_t book_length /* at least 124 */
+);
+
+/* Enters an hour, replacing one held. Refusals 11 (fewer than 124 cells), 12, 16, and 11 (no book's cells), in this order. */
+uint32_t naomhral_book_enter(
+    uint64_t *book, /* the cells */
+    size_t book_length, /* at least 124 */
+    uint32_t hour, /* 0 to 23 */
+    uint32_t demand, /* kWh */
+    uint32_t losses, /* kWh */
+    uint32_t bought, /* kWh */
+    uint32_t price /* centavos per kWh */
+);
+
+/* Removes an hour; an empty place stays as it is. Refusals 11 (fewer than 124 cells), 12, and 11 (no book's cells), in this order. */
+uint32_t naomhral_book_remove(
+    uint64_t *book, /* the cells */
+    size_t book_length, /* at least 124 */
+    uint32_t hour /* 0 to 23 */
+);
+
+/* What is entered of a settled hour: its demand, losses, bought kWh (the sum over all agents) and price. Hand in the sheet, and the
+ * summary and the figures as naomhral_settle left them. A book takes every entry of a settled hour. A refused hour has no entry: its
+ * number and place are handed on. 11 where the summary has fewer than 5 cells. */
+uint32_t naomhral_entry(
+    const uint8_t *sheet, /* the sheet's bytes */
+    size_t sheet_length, /* how many */
+    const uint32_t *summary, /* number, place, price, demand and losses */
+    size_t summary_length, /* at least 5 */
+    const uint32_t *figures, /* six cells an agent */
+    size_t figures_length, /* as in naomhral_settle */
+    uint32_t *answer, /* number, place, demand, losses, bought, price; the last four are 0 if refused */
+    size_t answer_length /* at least 6 */
 );
 
 #ifdef __cplusplus

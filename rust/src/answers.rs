@@ -21,6 +21,7 @@ impl Refusal {
     pub const NO_ROOM: u32 = 11;
     pub const NOT_THERE: u32 = 12;
     pub const OVERRUN: u32 = 13;
+    pub const OVER_BOOK: u32 = 16;
     pub const SHARES: u32 = 21;
     pub const SCHEDULE: u32 = 22;
     pub const PRICE: u32 = 23;
@@ -45,8 +46,9 @@ impl Refusal {
             Refusal::UNSHARED => "losses, and no consumption to share them over",
             Refusal::UNCOVERED => "availabilities sum to less than the demand",
             Refusal::NO_ROOM => "a lent list or buffer is too short",
-            Refusal::NOT_THERE => "no such row or section",
+            Refusal::NOT_THERE => "no such row, section or hour",
             Refusal::OVERRUN => "must-runs sum to more than the demand",
+            Refusal::OVER_BOOK => "the hour's numbers are over what a day's book holds",
             Refusal::SHARES => "the statement's loss shares do not follow",
             Refusal::SCHEDULE => "the statement's schedule does not follow",
             Refusal::PRICE => "the statement's price does not follow",

@@ -18,6 +18,7 @@
 //! [`plain`], [`statement`] and [`fast`] do not call the library: they are what the tests and the benchmark hold it against.
 
 mod answers;
+mod book;
 pub mod fast;
 pub mod plain;
 pub mod plain_reasons;
@@ -28,6 +29,7 @@ pub mod statement;
 
 pub use answers::{Counts, Refusal, Summary};
 pub use reasons::{why_contract, why_plant, ContractCase, ContractReason, PlantCase, PlantReason};
+pub use book::{entry, Book, Entry};
 
 pub const AGENTS_MOST: usize = 64;
 pub const BOUNDARIES_MOST: usize = 256;

@@ -76,4 +76,29 @@ extern "C" {
         answer: *mut u32,
         answer_length: usize,
     ) -> u32;
+
+    pub fn naomhral_book_empty(book: *mut u64, book_length: usize) -> u32;
+
+    pub fn naomhral_book_enter(
+        book: *mut u64,
+        book_length: usize,
+        hour: u32,
+        demand: u32,
+        losses: u32,
+        bought: u32,
+        price: u32,
+    ) -> u32;
+
+    pub fn naomhral_book_remove(book: *mut u64, book_length: usize, hour: u32) -> u32;
+
+    pub fn naomhral_entry(
+        sheet: *const u8,
+        sheet_length: usize,
+        summary: *const u32,
+        summary_length: usize,
+        figures: *const u32,
+        figures_length: usize,
+        answer: *mut u32,
+        answer_length: usize,
+    ) -> u32;
 }

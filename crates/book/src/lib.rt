@@ -73,7 +73,7 @@ pub fn empty() -> Book
     Book { places, totals }
 }
 
-fn hour_verdict(hour: u32) -> Verdict
+pub fn hour_verdict(hour: u32) -> Verdict
     ensures { λ r. ⌜ r ≡ slotVerdict hour ⌝ }
 {
     if hour < Book::HOURS {
@@ -104,7 +104,7 @@ fn numbers_verdict(hour: u32, demand: u32, losses: u32, bought: u32, price: u32)
 }
 
 // The first refusal of two.
-fn first(a: Verdict, b: Verdict) -> Verdict
+pub fn first(a: Verdict, b: Verdict) -> Verdict
     ensures { λ r. ⌜ r ≡ orElse a b ⌝ }
 {
     match a {
@@ -113,7 +113,7 @@ fn first(a: Verdict, b: Verdict) -> Verdict
     }
 }
 
-fn entry_verdict(hour: u32, demand: u32, losses: u32, bought: u32, price: u32) -> Verdict
+pub fn entry_verdict(hour: u32, demand: u32, losses: u32, bought: u32, price: u32) -> Verdict
     ensures { λ r. ⌜ r ≡ entryVerdict hour demand losses bought price ⌝ }
 {
     let of_hour = hour_verdict(hour);

@@ -1,6 +1,7 @@
 // Reads calls on day books from standard input and prints each call's answer and the four totals after it.
 // A book is a count and that many calls; a call is six 32-bit numbers, the low byte first: 1 to enter or 2 to remove, the hour, demand,
-// losses, bought and price.
+// losses, bought and price. Each call is also made on cells by the functions for C: an answer or totals other than the book's, or a
+// cell behind the book that was written, are told in a line that no expected answer has.
 use book::Book;
 use book::Outcome;
 use book::Totals;
@@ -12,6 +13,9 @@ ghost use Prim.Native.Nat.{_+_, _*_, _≤_, _<_};
 ghost use lib.ListN.{length};
 ghost use Rattle.book.specs.Book.{Kept};
 ghost use Rattle.book_vectors.specs.Cases.{Next};
+
+// What stands behind the book's cells, so that a write can be seen.
+const UNUSED: u64 = 11936128518282651045;
 
 // Where the next book starts.
 enum Step {
@@ -48,6 +52,45 @@ fn called(s: &[u8], at: usize, held: Book) -> Outcome
     book::with_hour(held, hour, demand, losses, bought, price)
 }
 
+// The same call, on cells.
+fn cells_called(s: &[u8], at: usize, cells: &mut [u64; 126]) -> u32
+    requires { ⌜ at + 24 ≤ length (now s) ⌝ }
+{
+    let hour = number(s, at + 4);
+    if number(s, at) == 2 {
+        return capi::day_book::naomhral_book_remove(cells, hour);
+    }
+    let demand = number(s, at + 8);
+    let losses = number(s, at + 12);
+    let bought = number(s, at + 16);
+    let price = number(s, at + 20);
+    capi::day_book::naomhral_book_enter(cells, hour, demand, losses, bought, price)
+}
+
+// The number that an answer is told by.
+fn number_told(v: Verdict) -> u32 {
+    match v {
+        Verdict::Fine => 0,
+        Verdict::Refused(r) => r.number,
+    }
+}
+
+// Whether the cells hold these totals, and the two behind the book are as they were.
+fn cells_agree(cells: &[u64; 126], t: Totals) -> bool {
+    (cells[120] == t.demand)
+        & (cells[121] == t.losses)
+        & (cells[122] == t.bought)
+        & (cells[123] == t.money)
+        & (cells[124] == UNUSED)
+        & (cells[125] == UNUSED)
+}
+
+fn say_unlike(agree: bool) {
+    if !agree {
+        io::write_all(STDOUT_FILENO, b"the cells tell otherwise\n");
+    }
+}
+
 fn print_number(n: u64) {
     io::write_all(STDOUT_FILENO, b" ");
     io::print_decimal(STDOUT_FILENO, n);
@@ -80,14 +123,18 @@ fn run_calls(s: &[u8], at: usize, n: usize)
     requires { ⌜ at + 24 * n ≤ length (now s) ⌝ }
 {
     let mut held = book::empty();
+    let mut cells = [UNUSED; 126];
+    capi::day_book::naomhral_book_empty(&mut cells);
     let mut i = 0;
     while i < n {
         let out = called(s, at + 24 * i, held);
+        let number = cells_called(s, at + 24 * i, &mut cells);
         let verdict = out.verdict;
         let next = out.book;
         let totals = next.totals;
         print_answer(verdict);
         print_totals(totals);
+        say_unlike((number == number_told(verdict)) & cells_agree(&cells, totals));
         held = next;
         i += 1;
     }

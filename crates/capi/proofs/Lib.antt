@@ -1,3 +1,4 @@
 pub mod Told
 pub mod Because
+pub mod ToldBook
 pub mod Outcomes

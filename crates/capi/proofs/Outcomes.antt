@@ -17,7 +17,7 @@ pub share-unique : (amount : ℕ) (weights before after after′ : List ℕ) (r 
 share-unique amount weights before after after′ r r′ h k =
     (h .number ∙ sym (k .number), filled-unique 0 _ _ _ _ _ (h .shares) (k .shares))
 
-told-unique : (n : ℕ) (answer before after after′ : List ℕ) (r r′ : ℕ)
+pub told-unique : (n : ℕ) (answer before after after′ : List ℕ) (r r′ : ℕ)
     → Told n answer before r after
     → Told n answer before r′ after′
     → (r ≡ r′) × (after ≡ after′)

@@ -1,4 +1,6 @@
 // The library for C and Rust. A list passes as a pointer and then its length; answers are numbers in a lent list.
+pub mod day_book;
+
 ghost use mathlib.Core.Path.{_≡_};
 ghost use Prim.Native.Nat.{_≤_};
 ghost use lib.ListN.{length};

@@ -8,20 +8,29 @@ use Rattle.book_vectors.proofs.run_calls.Statement.{statement}
 use Rattle.book_vectors.proofs.run_calls.Tie as tie
 
 abbrev Inv-loop : tie.InvT-loop
-Inv-loop s at n held₀ i₀ held i = (i ≤ n) × Kept held
+Inv-loop s at n held₀ cells₀ i₀ held cells i = (i ≤ n) × Kept held
 
 abbrev μ-loop : tie.MeasureT-loop
-μ-loop s at n held₀ i₀ held i = n - i
+μ-loop s at n held₀ cells₀ i₀ held cells i = n - i
+
+-- ways back: X-to-Y leads from the place X of the code to the earlier place Y
+abbrev say-unlike-to-totals : tie.After-say-unlike Inv-loop μ-loop → tie.After-totals Inv-loop μ-loop
+say-unlike-to-totals c = c .before .before .before .before .before .before
+
+abbrev say-unlike-to-called : tie.After-say-unlike Inv-loop μ-loop → tie.After-called Inv-loop μ-loop
+say-unlike-to-called c = say-unlike-to-totals c .before .before .before .before
 
 loop-holds : tie.Need-loop-holds Inv-loop μ-loop
-loop-holds c = (zero-le, subst Kept (sym (c .empty .ensures)) empty-kept)
+loop-holds c = (zero-le, subst Kept (sym (c .before .before .before .empty .ensures)) empty-kept)
 
 loop-again : tie.Need-loop-again Inv-loop μ-loop
-loop-again c = (omega arith, c .before .before .before .before .called .ensures)
+loop-again c = (omega arith, say-unlike-to-called c .called .ensures)
 
 pub run-calls-spec : {M : Type 1} → statement M
 run-calls-spec =
     tie.close
-    (tie.spec Inv-loop μ-loop (λ c κs. search needs) loop-holds (λ c. search needs) (λ c. search needs)
-    (λ c κs. search needs) (λ c κs. search needs) (λ c κs. search needs) (λ c. search needs) (λ c. search needs)
-    loop-again (λ c. search needs))
+    (tie.spec Inv-loop μ-loop (λ c κs. search needs) (λ c. search needs) (λ c κs. search needs) loop-holds
+    (λ c. search needs) (λ c. search needs) (λ c κs. search needs) (λ c. search needs) (λ c. search needs)
+    (λ c κs. search needs) (λ c κs. search needs) (λ c κs. search needs) (λ c κs. search needs)
+    (λ c κs. search needs) (λ c κs. search needs) (λ c. search needs) (λ c. search needs) loop-again
+    (λ c. search needs))

@@ -1,0 +1,4 @@
+pub mod Put
+pub mod Looked
+pub mod Turning
+pub mod Held
