@@ -33,6 +33,7 @@
 #define NAOMHRAL_AMOUNTS_MOST 256 /* cells: one for each of 256 contracts */
 #define NAOMHRAL_PAGE_MOST 5120 /* bytes: no page is longer */
 #define NAOMHRAL_WEIGHTS_MOST 256 /* weights that sharing takes */
+#define NAOMHRAL_REPORT_MOST 5424 /* cells: three for each of the 1808 bytes that mending can change */
 #define NAOMHRAL_BOOK 124 /* cells of a day's book: five for each of 24 places, and four totals */
 #define NAOMHRAL_BOOK_TOTALS 120 /* the first of the four totals */
 
@@ -43,6 +44,7 @@
 #define NAOMHRAL_PAGE_ANSWER 3
 #define NAOMHRAL_CHECK_ANSWER 2
 #define NAOMHRAL_WHY_ANSWER 8
+#define NAOMHRAL_MEND_ANSWER 3
 #define NAOMHRAL_ENTRY_ANSWER 6
 
 /* The refusals. */
@@ -191,6 +193,20 @@ uint32_t naomhral_why_contract(
                          2 and 3 the quantities ahead and the buyer's commercial demand, of 4 to 6 what is left when its price group
                          is reached and what the group asks in all; all but the first two are 0 if refused */
     size_t answer_length /* at least 8 */
+);
+
+/* Mends a sheet: a copy with its distances worked out from its counts and the unused bytes of agent and boundary rows set to 0, and a
+ * report of every byte changed, in rising place. Nothing else differs. Refusals 1, 2 (only if a count is over its limit or the counts
+ * don't fit the length) and 11. What is mended may still be refused with 3 to 6. */
+uint32_t naomhral_mend(
+    const uint8_t *sheet, /* the sheet's bytes */
+    size_t sheet_length, /* how many */
+    uint8_t *copy, /* the mended sheet, as long as the sheet */
+    size_t copy_length, /* at least as many bytes as the sheet */
+    uint32_t *report, /* three cells a change: place, old byte, new byte */
+    size_t report_length, /* at least three times the changes; NAOMHRAL_REPORT_MOST is always enough */
+    uint32_t *answer, /* number, place, how many bytes were changed (0 if refused) */
+    size_t answer_length /* at least 3 */
 );
 
 /* A day's book is NAOMHRAL_BOOK cells that the caller keeps. Place h, of hour h, has the cells 5 h to 5 h + 4: held (1, and 0 where the

@@ -20,6 +20,7 @@
 mod answers;
 mod book;
 pub mod fast;
+mod mend;
 pub mod plain;
 pub mod plain_reasons;
 pub mod raw;
@@ -30,6 +31,7 @@ pub mod statement;
 pub use answers::{Counts, Refusal, Summary};
 pub use reasons::{why_contract, why_plant, ContractCase, ContractReason, PlantCase, PlantReason};
 pub use book::{entry, Book, Entry};
+pub use mend::{mend, Change};
 
 pub const AGENTS_MOST: usize = 64;
 pub const BOUNDARIES_MOST: usize = 256;
@@ -44,6 +46,9 @@ pub const SHEET_MOST: usize = 10_272;
 
 /// A buffer that suffices for the page of every sheet.
 pub const PAGE_MOST: usize = 5_120;
+
+/// The cells of a report that suffice for every sheet: three for each of the 1,808 bytes that mending can change.
+pub const REPORT_MOST: usize = 5_424;
 
 /// The weights that sharing takes at most.
 pub const WEIGHTS_MOST: usize = 256;

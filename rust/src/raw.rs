@@ -77,6 +77,17 @@ extern "C" {
         answer_length: usize,
     ) -> u32;
 
+    pub fn naomhral_mend(
+        sheet: *const u8,
+        sheet_length: usize,
+        copy: *mut u8,
+        copy_length: usize,
+        report: *mut u32,
+        report_length: usize,
+        answer: *mut u32,
+        answer_length: usize,
+    ) -> u32;
+
     pub fn naomhral_book_empty(book: *mut u64, book_length: usize) -> u32;
 
     pub fn naomhral_book_enter(

@@ -1,4 +1,5 @@
 pub mod Told
 pub mod Because
+pub mod ToldMend
 pub mod ToldBook
 pub mod Outcomes

@@ -1,3 +1,4 @@
 pub mod Told
 pub mod Why
+pub mod MendTold
 pub mod BookTold

@@ -1,5 +1,6 @@
 // The library for C and Rust. A list passes as a pointer and then its length; answers are numbers in a lent list.
 pub mod day_book;
+pub mod mending;
 
 ghost use mathlib.Core.Path.{_≡_};
 ghost use Prim.Native.Nat.{_≤_};

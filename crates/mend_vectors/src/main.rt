@@ -1,4 +1,4 @@
-// Reads sheets from standard input and prints what mending answers to each: how many changes, and a line a change.
+// Reads sheets from standard input and prints what mending, by the function for C, answers to each: how many changes, and a line a change.
 // A case is a 32-bit length, the low byte first, that many bytes, and two 32-bit numbers: the room of the copy in bytes, and that of
 // the report in changes. A copy that isn't the sheet with just the changes reported, or a byte or cell that was not to be written
 // and was, is told in a line that no expected answer has.
@@ -6,8 +6,6 @@ ghost use Prim.Native.Nat.{_≤_, _<_};
 use input::Input;
 use libc::STDERR_FILENO;
 use libc::STDOUT_FILENO;
-use mend::Mending;
-use refusals::Refusal;
 use rows::Words;
 
 // What stands in the lent lists before, so that a write can be seen.
@@ -50,11 +48,11 @@ fn print_number(n: u64) {
     io::print_decimal(STDOUT_FILENO, n);
 }
 
-fn print_refused(r: Refusal) {
+fn print_refused(number: u32, place: u32) {
     say(b"refused ");
-    print_number(r.number as u64);
+    print_number(number as u64);
     say(b" ");
-    print_number(r.place as u64);
+    print_number(place as u64);
     say(b"\n");
 }
 
@@ -149,7 +147,8 @@ fn print_changes(report: &[u32], n: usize) {
     }
 }
 
-fn print_mended(s: &[u8], copy: &[u8], report: &[u32], n: usize) {
+fn print_mended(s: &[u8], copy: &[u8], report: &[u32], changes: u32) {
+    let n = changes as usize;
     say(b"mended ");
     print_number(n as u64);
     say(b"\n");
@@ -162,8 +161,8 @@ fn print_mended(s: &[u8], copy: &[u8], report: &[u32], n: usize) {
     }
 }
 
-fn print_refusal(r: Refusal, copy: &[u8], report: &[u32]) {
-    print_refused(r);
+fn print_refusal(number: u32, place: u32, copy: &[u8], report: &[u32]) {
+    print_refused(number, place);
     if !(bytes_kept(copy, 0) & cells_kept(report, 0)) {
         say(b"a refusal has written\n");
     }
@@ -173,10 +172,15 @@ fn print_case(case: u64, s: &[u8], copy: &mut [u8], report: &mut [u32]) {
     say(b"case ");
     print_number(case);
     say(b"\n");
-    let answer = mend::mend(s, copy, report);
-    match answer {
-        Mending::Done(n) => print_mended(s, copy, report, n),
-        Mending::Refused(r) => print_refusal(r, copy, report),
+    let mut answer = [0u32; 3];
+    let number = capi::mending::naomhral_mend(s, copy, report, &mut answer);
+    if number == 0 {
+        print_mended(s, copy, report, answer[2]);
+    } else {
+        print_refusal(answer[0], answer[1], copy, report);
+    }
+    if number != answer[0] {
+        say(b"the number returned is not the answer's\n");
     }
 }
 
