@@ -119,8 +119,9 @@ struct Columns {
     // a bit an agent: those metered as generators, and of these the small ones outside central dispatch
     generators: u64,
     small: u64,
-    imports: [u32; AGENTS],
-    exports: [u32; AGENTS],
+    // in ten-thousandths
+    imports: [u64; AGENTS],
+    exports: [u64; AGENTS],
     holders: [u8; PLANTS],
     // price, row, inflexible and availability in one number, so that the numbers' order is the merit order
     plants: [u64; PLANTS],
@@ -137,8 +138,14 @@ struct Columns {
 }
 
 #[inline]
-fn referred(reading: u32, factor: u32) -> u32 {
-    ((reading as u64 * (10_000 + factor as u64) + 5_000) / 10_000) as u32
+fn referred(reading: u32, factor: u32) -> u64 {
+    reading as u64 * (10_000 + factor as u64)
+}
+
+/// Ten-thousandths as whole kWh, half upwards.
+#[inline]
+fn rounded(tenths: u64) -> u32 {
+    ((tenths + 5_000) / 10_000) as u32
 }
 
 #[inline]
@@ -252,24 +259,24 @@ pub fn settle(
     let mut consumption = [0u32; AGENTS];
     let small = c.small;
     let mut injected = 0u32;
-    let (mut entering, mut leaving, mut consumed, mut own_imports) = (0u32, 0u32, 0u32, 0u32);
+    let (mut entering, mut consumed, mut own_imports) = (0u32, 0u32, 0u32);
     for a in 0..agents {
         let (import, export) = (c.imports[a], c.exports[a]);
-        entering += export;
-        leaving += import;
         if generates(a) {
-            own_imports += import;
+            entering += rounded(export);
+            own_imports += rounded(import);
             if (small >> (a & 63)) & 1 == 1 {
-                injected += export;
+                injected += rounded(export);
             }
         } else {
             if export > import {
                 return refuse(7, a);
             }
-            consumption[a] = import - export;
-            consumed += import - export;
+            consumption[a] = rounded(import - export);
+            consumed += consumption[a];
         }
     }
+    let leaving = consumed + own_imports;
     if entering < leaving {
         return refuse(8, 0);
     }
@@ -304,7 +311,7 @@ pub fn settle(
     // own energy: a retailer's commercial demand, a small generator's export, any other's schedule
     let mut own = [0u32; AGENTS];
     for a in 0..agents {
-        own[a] = if (small >> (a & 63)) & 1 == 1 { c.exports[a] } else { consumption[a] + losses_of[a] };
+        own[a] = if (small >> (a & 63)) & 1 == 1 { rounded(c.exports[a]) } else { consumption[a] + losses_of[a] };
     }
     let price = dispatch(&mut c.plants[..plants], &c.holders, &c.musts, target - c.must, schedule, &mut own);
 
@@ -314,7 +321,8 @@ pub fn settle(
     for (a, (line, cell)) in figures.chunks_exact_mut(6).zip(money.iter_mut()).enumerate() {
         let short = own[a].saturating_sub(contracted[a]);
         let over = contracted[a].saturating_sub(own[a]);
-        let (import, bought, sold) = if generates(a) { (c.imports[a], over + c.imports[a], short) } else { (0, short, over) };
+        let taken = if generates(a) { rounded(c.imports[a]) } else { 0 };
+        let (import, bought, sold) = if generates(a) { (taken, over + taken, short) } else { (0, short, over) };
         line.copy_from_slice(&[losses_of[a], own[a], import, contracted[a], bought, sold]);
         *cell = (sold as i64 - bought as i64) * price as i64;
     }

@@ -1,4 +1,4 @@
-//! Document 01 with P1 and P5 of document 02 written out plainly, from the papers alone: wide numbers, sorted copies, no thought of
+//! Document 01 with P1, P5 and P7 of document 02 written out plainly, from the papers alone: wide numbers, sorted copies, no thought of
 //! speed. The tests hold the proved library against it. Its functions have the shapes of the wrapper's.
 
 use crate::answers::{Counts, Refusal, Summary};
@@ -343,8 +343,14 @@ pub struct Hour {
     pub amounts: Vec<u64>,
 }
 
+/// Exact ten-thousandths.
 fn referred(reading: u32, factor: u32) -> u64 {
-    (reading as u64 * (10_000 + factor as u64) + 5_000) / 10_000
+    reading as u64 * (10_000 + factor as u64)
+}
+
+/// Ten-thousandths as whole kWh, half upwards.
+fn rounded(tenths: u64) -> u64 {
+    (tenths + 5_000) / 10_000
 }
 
 /// Refusals 1 to 10 and 13, or the settled hour.
@@ -363,9 +369,13 @@ pub fn hour(sheet: &[u8]) -> Answer<Hour> {
     if let Some(a) = (0..agents).find(|&a| retails(a) && exports[a] > imports[a]) {
         return refuse(7, a);
     }
-    let consumption: Vec<u64> = (0..agents).map(|a| if retails(a) { imports[a] - exports[a] } else { 0 }).collect();
-    let entering: u64 = exports.iter().sum();
-    let leaving: u64 = imports.iter().sum();
+    // rounded once for each agent; a generator has no factor, so its readings are whole kWh
+    let consumption: Vec<u64> = (0..agents).map(|a| if retails(a) { rounded(imports[a] - exports[a]) } else { 0 }).collect();
+    let of_generator = |a: usize, tenths: &[u64]| if retails(a) { 0 } else { tenths[a] / 10_000 };
+    let own_import: Vec<u64> = (0..agents).map(|a| of_generator(a, &imports)).collect();
+    let delivered: Vec<u64> = (0..agents).map(|a| of_generator(a, &exports)).collect();
+    let entering: u64 = delivered.iter().sum();
+    let leaving: u64 = consumption.iter().sum::<u64>() + own_import.iter().sum::<u64>();
     if entering < leaving {
         return refuse(8, 0);
     }
@@ -375,10 +385,9 @@ pub fn hour(sheet: &[u8]) -> Answer<Hour> {
     }
     let loss_shares = shares(losses, &consumption);
     let commercial: Vec<u64> = (0..agents).map(|a| consumption[a] + loss_shares[a]).collect();
-    let own_import: Vec<u64> = (0..agents).map(|a| if retails(a) { 0 } else { imports[a] }).collect();
     let demand = commercial.iter().sum::<u64>() + own_import.iter().sum::<u64>();
     // the schedule sums to the demand less what small generators export
-    let small: u64 = (0..agents).filter(|&a| s.kinds[a] == SMALL).map(|a| exports[a]).sum();
+    let small: u64 = (0..agents).filter(|&a| s.kinds[a] == SMALL).map(|a| delivered[a]).sum();
     let to_schedule = demand - small;
     if s.plants.iter().map(|p| p.availability as u64).sum::<u64>() < to_schedule {
         return refuse(10, 0);
@@ -407,7 +416,7 @@ pub fn hour(sheet: &[u8]) -> Answer<Hour> {
         let own = if retails(a) {
             commercial[a]
         } else if s.kinds[a] == SMALL {
-            exports[a]
+            delivered[a]
         } else {
             (0..s.plants.len()).filter(|&i| s.plants[i].agent as usize == a).map(|i| schedule[i]).sum()
         };

@@ -78,6 +78,7 @@ struct Seen {
     generators_buying: usize,
     small_selling: usize,
     small_buying: usize,
+    rounded_once: usize,
 }
 
 impl Seen {
@@ -102,6 +103,14 @@ impl Seen {
         self.generators_buying += is(h.lines.iter().zip(&h.kinds).any(|(l, &k)| k == 2 && l.bought > 0));
         self.small_selling += is(h.lines.iter().zip(&h.kinds).any(|(l, &k)| k == 3 && l.sold > 0));
         self.small_buying += is(h.lines.iter().zip(&h.kinds).any(|(l, &k)| k == 3 && l.bought > 0));
+        // a consumption that its rows, each rounded by itself, miss
+        let by_rows = |a: usize| -> i64 {
+            let own = s.boundaries.iter().filter(|b| b.agent as usize == a);
+            let whole = |reading: u32, factor: u32| ((reading as u64 * (10_000 + factor as u64) + 5_000) / 10_000) as i64;
+            own.map(|b| whole(b.import, b.factor) - whole(b.export, b.factor)).sum()
+        };
+        self.rounded_once +=
+            is((0..h.kinds.len()).any(|a| h.kinds[a] == 1 && by_rows(a) != h.lines[a].own as i64 - h.lines[a].share as i64));
     }
 
     fn check(&self) {
@@ -124,6 +133,7 @@ impl Seen {
             self.generators_buying,
             self.small_selling,
             self.small_buying,
+            self.rounded_once,
         ];
         assert!(features.iter().all(|&f| f >= 500), "a case is too rare: {features:?}");
     }

@@ -18,11 +18,11 @@ use Rattle.sums.proofs.First.{first-eq}
 use Rattle.rows.specs.Rows.{carriesLosses, isOutside}
 use Rattle.hour.specs.Sheet.{Sheet, agents, retails, outside}
 use Rattle.hour.specs.Sound.{Sound}
-use Rattle.hour.specs.Balance.{imported, exported, consumption, consumed, consumptions, ownImport, entering, leaving, losses, lossShare, commercial, hourDemand, injected, smallExports, dispatchDemand}
+use Rattle.hour.specs.Balance.{rounded, imported, exported, consumption, consumed, consumptions, ownImport, delivered, entering, leaving, losses, lossShare, commercial, hourDemand, injected, smallExports, dispatchDemand}
 use Rattle.hour.specs.Answer.{firstOver}
 use Rattle.hour.proofs.Demand.{weights-long, small-metered}
 use Rattle.balance.specs.Balances.{zeros}
-use Rattle.balance.specs.Parts.{Read}
+use Rattle.balance.specs.Parts.{Read, Sides}
 
 module _ (h : Sheet) (n : ℕ) (kinds imports exports used : List ℕ) (r : Read h n kinds imports exports used) where
   pub over-is : first n (λ a. carriesLosses (at kinds a) && ltb (at imports a) (at exports a)) ≡ firstOver h
@@ -33,29 +33,39 @@ module _ (h : Sheet) (n : ℕ) (kinds imports exports used : List ℕ) (r : Read
       (λ a l. ap (λ (k : ℕ). carriesLosses k && ltb (at imports a) (at exports a)) (r .kind .done a l)
       ∙ ap₂ (λ (x y : ℕ). carriesLosses (at (h .kinds) a) && ltb x y) (r .took a l) (r .gave a l)))
 
-  pub entering-is : sum n (at exports) ≡ entering h
-  unfolding entering
-  entering-is = rw (r .count) (sum-eq n _ _ (r .gave))
-
-  pub leaving-is : sum n (at imports) ≡ leaving h
-  unfolding leaving
-  leaving-is = rw (r .count) (sum-eq n _ _ (r .took))
-
   pub consumed-is : sum n (at used) ≡ consumed h
   unfolding consumed
   consumed-is = rw (r .count) (sum-eq n _ _ (r .used .done))
 
+module _ (h : Sheet) (n : ℕ) (kinds imports exports taken given used : List ℕ) (r : Sides h n kinds imports exports taken given used) where
+  pub entering-is : sum n (at given) ≡ entering h
+  unfolding entering
+  entering-is = rw (r .read .count) (sum-eq n _ _ (r .out .done))
+
+  pub leaving-is : sum n (at used) + sum n (at taken) ≡ leaving h
+  unfolding leaving
+  leaving-is =
+      rw (r .read .count)
+      (ap₂ _+_ (sum-eq n _ _ (r .read .used .done)) (sum-eq n _ _ (r .own .done)) ∙ sym (sum-add n (consumption h) (ownImport h)))
+
 -- ---- one agent
 module _ (h : Sheet) (a k x y : ℕ) (p : k ≡ at (h .kinds) a) (q : x ≡ imported h a) where
-  pub used-is : y ≡ exported h a → pick (carriesLosses k) (x - y) ≡ consumption h a
+  pub used-is : y ≡ exported h a → pick (carriesLosses k) (rounded (x - y)) ≡ consumption h a
   unfolding consumption retails
   used-is r = rw (p, q, r)
 
-  pub taken-is : pick (not (carriesLosses k)) x ≡ ownImport h a
+  pub taken-is : pick (not (carriesLosses k)) (rounded x) ≡ ownImport h a
   unfolding ownImport retails
   taken-is = rw (p, q)
 
-pub injected-is : (h : Sheet) (a k y : ℕ) → k ≡ at (h .kinds) a → y ≡ exported h a → pick (isOutside k) y ≡ injected h a
+pub given-is : (h : Sheet) (a k y : ℕ)
+    → k ≡ at (h .kinds) a
+    → y ≡ exported h a
+    → pick (not (carriesLosses k)) (rounded y) ≡ delivered h a
+unfolding delivered retails
+given-is h a k y p q = rw (p, q)
+
+pub injected-is : (h : Sheet) (a k y : ℕ) → k ≡ at (h .kinds) a → y ≡ delivered h a → pick (isOutside k) y ≡ injected h a
 unfolding injected outside
 injected-is h a k y p q = rw (p, q)
 

@@ -19,10 +19,10 @@ ghost use Rattle.sheet.specs.Reading.{readOf};
 ghost use Rattle.sheet.specs.declared.Reading.{Reading};
 ghost use Rattle.columns.specs.Columns.{columnsOf};
 ghost use Rattle.hour.specs.Sheet.{Sheet, agents};
-ghost use Rattle.hour.specs.Balance.{referred};
+ghost use Rattle.hour.specs.Balance.{referred, rounded};
 ghost use Rattle.hour.specs.Answer.{balanceVerdict};
 ghost use Rattle.balance.specs.Balances.{zeros, nothing, Balances, Weighed};
-ghost use Rattle.balance.specs.Parts.{Metered, Read};
+ghost use Rattle.balance.specs.Parts.{mostExact, Metered, Read, Sides};
 
 // A sheet's balance, agent by agent, with the counts that reading gave. A refused one is all zeros.
 pub struct Balance {
@@ -40,12 +40,27 @@ pub struct Balance {
     pub target: u32,
 }
 
-// One reading, referred.
-fn refer(reading: u32, factor: u32) -> u32
+// One reading, referred: exact ten-thousandths.
+fn refer(reading: u32, factor: u32) -> u64
     requires { ⌜ (reading ≤ mostReading) × (factor ≤ mostFactor) ⌝ }
     ensures { λ r. ⌜ r ≡ referred reading factor ⌝ }
 {
-    ((sums::wide(reading) * sums::wide(10000 + factor) + 5000) / 10000) as u32
+    sums::wide(reading) * sums::wide(10000 + factor)
+}
+
+// Ten-thousandths as whole kWh, half upwards.
+fn to_whole(x: u64) -> u32
+    requires { ⌜ x ≤ mostExact ⌝ }
+    ensures { λ r. ⌜ r ≡ rounded x ⌝ }
+{
+    ((x + 5000) / 10000) as u32
+}
+
+// x less y, not below 0.
+fn less(x: u64, y: u64) -> u64
+    ensures { λ r. ⌜ r ≡ x - y ⌝ }
+{
+    if x < y { 0 } else { x - y }
 }
 
 // The agents' kinds.
@@ -63,8 +78,8 @@ fn kinds_of(s: &[u8], c: Counts, out: &mut [u32])
     }
 }
 
-// What each agent took and delivered: one pass over the boundary rows, each import and each export referred by itself.
-fn meter(s: &[u8], c: Counts, imports: &mut [u32], exports: &mut [u32])
+// What each agent took and delivered, in ten-thousandths: one pass over the boundary rows.
+fn meter(s: &[u8], c: Counts, imports: &mut [u64], exports: &mut [u64])
     requires { ⌜ readOf (now s) ≡ Reading.Accepted c ⌝ }
     requires { ⌜ (now imports ≡ zeros) × (now exports ≡ zeros) ⌝ }
     ensures { λ _. ⌜ Metered (columnsOf (now (s .entry)) c) (now (imports .exit)) (now (exports .exit)) ⌝ }
@@ -81,18 +96,28 @@ fn meter(s: &[u8], c: Counts, imports: &mut [u32], exports: &mut [u32])
     }
 }
 
-// v of a retailer, 0 of a generator.
-fn of_retailer(kind: u32, v: u32) -> u32
-    ensures { λ r. ⌜ r ≡ pick (carriesLosses kind) v ⌝ }
+// What a retailer consumes, rounded once; 0 of a generator.
+fn of_retailer(kind: u32, import: u64, export: u64) -> u32
+    requires { ⌜ import ≤ mostExact ⌝ }
+    ensures { λ r. ⌜ r ≡ pick (carriesLosses kind) (rounded (import - export)) ⌝ }
 {
-    if rows::carries_losses(kind) { v } else { 0 }
+    if rows::carries_losses(kind) {
+        to_whole(less(import, export))
+    } else {
+        0
+    }
 }
 
-// v of a generator, 0 of a retailer.
-fn of_generator(kind: u32, v: u32) -> u32
-    ensures { λ r. ⌜ r ≡ pick (not (carriesLosses kind)) v ⌝ }
+// v of a generator, in whole kWh; 0 of a retailer.
+fn of_generator(kind: u32, v: u64) -> u32
+    requires { ⌜ v ≤ mostExact ⌝ }
+    ensures { λ r. ⌜ r ≡ pick (not (carriesLosses kind)) (rounded v) ⌝ }
 {
-    if rows::carries_losses(kind) { 0 } else { v }
+    if rows::carries_losses(kind) {
+        0
+    } else {
+        to_whole(v)
+    }
 }
 
 // v of a small generator, 0 of any other agent.
@@ -103,25 +128,27 @@ fn of_small(kind: u32, v: u32) -> u32
 }
 
 // A retailer's imports less its exports; nothing of a generator.
-fn consumptions(kinds: &[u32], imports: &[u32], exports: &[u32], n: usize, out: &mut [u32])
+fn consumptions(kinds: &[u32], imports: &[u64], exports: &[u64], n: usize, out: &mut [u32])
     requires { ⌜ (n ≤ length (now kinds)) × (n ≤ length (now imports)) × (n ≤ length (now exports)) × (n ≤ length (now out)) ⌝ }
-    ensures { λ _. ⌜ Filled 0 (now (out .entry)) (now (out .exit)) n (λ a. pick (carriesLosses (at (now (kinds .entry)) a)) (at (now (imports .entry)) a - at (now (exports .entry)) a)) ⌝ }
+    requires { ⌜ ((a : ℕ) → a < n → at (now imports) a ≤ mostExact) ⌝ }
+    ensures { λ _. ⌜ Filled 0 (now (out .entry)) (now (out .exit)) n (λ a. pick (carriesLosses (at (now (kinds .entry)) a)) (rounded (at (now (imports .entry)) a - at (now (exports .entry)) a))) ⌝ }
 {
     let mut a = 0;
     while a < n {
-        out[a] = of_retailer(kinds[a], sums::less(imports[a], exports[a]));
+        out[a] = of_retailer(kinds[a], imports[a], exports[a]);
         a += 1;
     }
 }
 
-// A generator's imports; nothing of a retailer.
-fn own_imports(kinds: &[u32; Agent::MOST], imports: &[u32; Agent::MOST], n: usize, out: &mut [u32])
+// What a column has of generators, in whole kWh; nothing of a retailer.
+fn generators(kinds: &[u32; Agent::MOST], values: &[u64; Agent::MOST], n: usize, out: &mut [u32])
     requires { ⌜ (n ≤ mostAgents) × (n ≤ length (now out)) ⌝ }
-    ensures { λ _. ⌜ Filled 0 (now (out .entry)) (now (out .exit)) n (λ a. pick (not (carriesLosses (at (now (kinds .entry)) a))) (at (now (imports .entry)) a)) ⌝ }
+    requires { ⌜ ((a : ℕ) → a < n → at (now values) a ≤ mostExact) ⌝ }
+    ensures { λ _. ⌜ Filled 0 (now (out .entry)) (now (out .exit)) n (λ a. pick (not (carriesLosses (at (now (kinds .entry)) a))) (rounded (at (now (values .entry)) a))) ⌝ }
 {
     let mut a = 0;
     while a < n {
-        out[a] = of_generator(kinds[a], imports[a]);
+        out[a] = of_generator(kinds[a], values[a]);
         a += 1;
     }
 }
@@ -171,7 +198,7 @@ fn total(values: &[u32; Agent::MOST], n: usize) -> u32
 }
 
 // A retailer that delivers more than it takes.
-fn is_over(kind: u32, import: u32, export: u32) -> bool
+fn is_over(kind: u32, import: u64, export: u64) -> bool
     ensures { λ r. ⌜ r ≡ (carriesLosses kind && ltb import export) ⌝ }
 {
     rows::carries_losses(kind) & (import < export)
@@ -180,8 +207,8 @@ fn is_over(kind: u32, import: u32, export: u32) -> bool
 // The lowest such agent, or n.
 fn first_over(
     kinds: &[u32; Agent::MOST],
-    imports: &[u32; Agent::MOST],
-    exports: &[u32; Agent::MOST],
+    imports: &[u64; Agent::MOST],
+    exports: &[u64; Agent::MOST],
     n: usize,
 ) -> usize
     requires { ⌜ n ≤ mostAgents ⌝ }
@@ -207,24 +234,27 @@ fn carried(losses: u32, consumed: u32) -> bool
 // Refusals 7 to 9, in this order.
 fn judge(
     kinds: &[u32; Agent::MOST],
-    imports: &[u32; Agent::MOST],
-    exports: &[u32; Agent::MOST],
+    imports: &[u64; Agent::MOST],
+    exports: &[u64; Agent::MOST],
+    taken: &[u32; Agent::MOST],
+    delivered: &[u32; Agent::MOST],
     consumption: &[u32; Agent::MOST],
     n: usize,
 ) -> Verdict
-    requires { ⌜ (n ≤ mostAgents) × (sum n (at (now imports)) ≤ 4294967295) × (sum n (at (now exports)) ≤ 4294967295) × (sum n (at (now consumption)) ≤ 4294967295) ⌝ }
-    ensures { λ r. ⌜ ((h : Sheet) → Read h n (now (kinds .entry)) (now (imports .entry)) (now (exports .entry)) (now (consumption .entry)) → r ≡ balanceVerdict h) ⌝ }
+    requires { ⌜ (n ≤ mostAgents) × (sum n (at (now delivered)) ≤ 4294967295) × (sum n (at (now consumption)) + sum n (at (now taken)) ≤ 4294967295) ⌝ }
+    ensures { λ r. ⌜ ((h : Sheet) → Sides h n (now (kinds .entry)) (now (imports .entry)) (now (exports .entry)) (now (taken .entry)) (now (delivered .entry)) (now (consumption .entry)) → r ≡ balanceVerdict h) ⌝ }
 {
     let over = first_over(kinds, imports, exports, n);
     if over < n {
         return refusals::refuse(Refusal::EXPORTS, over as u32);
     }
-    let entering = total(exports, n);
-    let leaving = total(imports, n);
+    let entering = total(delivered, n);
+    let consumed = total(consumption, n);
+    let leaving = consumed + total(taken, n);
     if entering < leaving {
         return refusals::refuse(Refusal::GAIN, 0);
     }
-    if carried(entering - leaving, total(consumption, n)) {
+    if carried(entering - leaving, consumed) {
         return Verdict::Fine;
     }
     refusals::refuse(Refusal::UNSHARED, 0)
@@ -257,8 +287,8 @@ fn read_columns(
     s: &[u8],
     c: Counts,
     kinds: &mut [u32],
-    imports: &mut [u32],
-    exports: &mut [u32],
+    imports: &mut [u64],
+    exports: &mut [u64],
     consumption: &mut [u32],
 )
     requires { ⌜ readOf (now s) ≡ Reading.Accepted c ⌝ }
@@ -277,8 +307,8 @@ fn weigh_read(s: &[u8], c: Counts) -> Balance
 {
     let n = c.agents;
     let mut kinds = [0u32; Agent::MOST];
-    let mut imports = [0u32; Agent::MOST];
-    let mut exports = [0u32; Agent::MOST];
+    let mut imports = [0u64; Agent::MOST];
+    let mut exports = [0u64; Agent::MOST];
     let mut consumption = [0u32; Agent::MOST];
     read_columns(
         s,
@@ -288,20 +318,32 @@ fn weigh_read(s: &[u8], c: Counts) -> Balance
         &mut exports,
         &mut consumption,
     );
-    let verdict = judge(&kinds, &imports, &exports, &consumption, n);
+    let mut taken = [0u32; Agent::MOST];
+    generators(&kinds, &imports, n, &mut taken);
+    let mut delivered = [0u32; Agent::MOST];
+    generators(&kinds, &exports, n, &mut delivered);
+    let verdict = judge(
+        &kinds,
+        &imports,
+        &exports,
+        &taken,
+        &delivered,
+        &consumption,
+        n,
+    );
     let Verdict::Fine = verdict else {
         return turned_away(verdict);
     };
-    let losses = total(&exports, n) - total(&imports, n);
+    let entering = total(&delivered, n);
+    let leaving = total(&consumption, n) + total(&taken, n);
+    let losses = entering - leaving;
     let mut shares = [0u32; Agent::MOST];
     share::share(losses, &consumption[..n], &mut shares);
     let mut commercial = [0u32; Agent::MOST];
     added(&consumption, &shares, n, &mut commercial);
-    let mut taken = [0u32; Agent::MOST];
-    own_imports(&kinds, &imports, n, &mut taken);
     let demand = total(&commercial, n) + total(&taken, n);
     let mut injected = [0u32; Agent::MOST];
-    small_exports(&kinds, &exports, n, &mut injected);
+    small_exports(&kinds, &delivered, n, &mut injected);
     let mut own = [0u32; Agent::MOST];
     added(&commercial, &injected, n, &mut own);
     let target = demand - total(&injected, n);

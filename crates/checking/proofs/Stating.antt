@@ -23,10 +23,10 @@ use Rattle.merit.specs.Merit.{hourPrice}
 use Rattle.merit.proofs.Price.{price-most}
 use Rattle.hour.specs.Sheet.{Sheet, agents, plants, contracts, retails}
 use Rattle.hour.specs.Sound.{Sound}
-use Rattle.hour.specs.Balance.{imported, exported, consumption, consumed, ownImport, entering, leaving, losses, injected, smallExports, dispatchDemandBy}
+use Rattle.hour.specs.Balance.{consumption, consumed, ownImport, entering, losses, injected, smallExports, dispatchDemandBy}
 use Rattle.hour.specs.Lines.{ownBy, contractedBy}
 use Rattle.hour.specs.Answer.{Lent, shareIn, scheduleIn}
-use Rattle.hour.proofs.Bounds.{consumption-le, import-le, injected-le, imported-le, exported-le, leaving-le, entering-le, consumed-most}
+use Rattle.hour.proofs.Bounds.{consumption-le, injected-le, imports-within, injects-within, imported-le, exported-le, leaving-le, entering-le, consumed-most}
 use Rattle.hour.proofs.Demand.{small-metered}
 use Rattle.hour.proofs.Balance.{contracted-by-both, own-by-all}
 use Rattle.balance.specs.Balances.{zeros}
@@ -49,14 +49,6 @@ consumed-sum h = refl
 losses-le : (h : Sheet) → losses h ≤ entering h
 unfolding losses
 losses-le h = omega arith
-
-entering-sum : (h : Sheet) → sum (agents h) (exported h) ≡ entering h
-unfolding entering
-entering-sum h = refl
-
-leaving-sum : (h : Sheet) → sum (agents h) (imported h) ≡ leaving h
-unfolding leaving
-leaving-sum h = refl
 
 module _ (h : Sheet) (ok : Sound h) (l : Lent) (ks us is js : List ℕ) (x : ℕ) (w : Weighs h ks us is js x) where
   -- all that is consumed
@@ -114,8 +106,7 @@ module _ (h : Sheet) (ok : Sound h) (l : Lent) (ks us is js : List ℕ) (x : ℕ
           own =
               omega (
                 arith,
-                sum-le (agents h) (ownImport h) (imported h) (λ a m. import-le h a),
-                leaving-sum h,
+                imports-within h,
                 leaving-le h ok,
               );
           injects = w .injects;
@@ -151,8 +142,7 @@ module _ (h : Sheet) (ok : Sound h) (l : Lent) (ks ds is js : List ℕ) (w : Dem
       omega (
         arith,
         sum-eq (agents h) (at js) (injected h) (w .injects),
-        sum-le (agents h) (injected h) (exported h) (λ a m. injected-le h a),
-        entering-sum h,
+        injects-within h,
         entering-le h ok,
       )
 

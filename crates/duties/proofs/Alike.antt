@@ -21,7 +21,7 @@ use Rattle.deals.proofs.Own.{own-at, own-list, own-sum, count-own}
 use Rattle.deals.proofs.Hours.{hour-is, bought-own}
 use Rattle.hour.specs.Sheet.{Sheet, agents, plants, contracts, retails, outside}
 use Rattle.hour.specs.Sound.{Sound}
-use Rattle.hour.specs.Balance.{imported, exported, consumption, ownImport, entering, leaving, losses, consumptions, lossShare, commercial, demands, hourDemand, injected, smallExports, dispatchDemand}
+use Rattle.hour.specs.Balance.{imported, exported, consumption, ownImport, delivered, entering, leaving, losses, consumptions, lossShare, commercial, demands, hourDemand, injected, smallExports, dispatchDemand}
 use Rattle.hour.specs.Lines.{scheduled, bolsaPrice, amount, own, contracted, bought, sold, money, cellsPerAgent, figure}
 use Rattle.refusals.specs.declared.Verdict.{Verdict}
 use Rattle.hour.specs.Answer.{summaryOf}
@@ -36,7 +36,7 @@ module _ (s t : Sheet) (e : Alike s t) where
   retails-same a = rw (e .kinds)
 
   pub share-same : (a : ℕ) → lossShare s a ≡ lossShare t a
-  unfolding lossShare consumptions consumption losses entering leaving imported exported retails
+  unfolding lossShare consumptions consumption losses entering leaving delivered ownImport imported exported retails
   share-same a = rw (e .kinds, e .owners, e .factors, e .imports, e .exports)
 
   pub import-same : (a : ℕ) → ownImport s a ≡ ownImport t a
@@ -44,12 +44,12 @@ module _ (s t : Sheet) (e : Alike s t) where
   import-same a = rw (e .kinds, e .owners, e .factors, e .imports)
 
   pub demands-same : demands s ≡ demands t
-  unfolding demands commercial lossShare consumptions consumption losses entering leaving imported exported retails
+  unfolding demands commercial lossShare consumptions consumption losses entering leaving delivered ownImport imported exported retails
   demands-same = rw (e .kinds, e .owners, e .factors, e .imports, e .exports)
 
   pub price-same : bolsaPrice s ≡ bolsaPrice t
   unfolding bolsaPrice scheduled dispatchDemand smallExports outside commercial ownImport lossShare consumptions
-      consumption losses entering leaving imported exported retails
+      consumption losses entering leaving delivered imported exported retails
   price-same =
       rw (
         e .kinds,
@@ -65,12 +65,12 @@ module _ (s t : Sheet) (e : Alike s t) where
       )
 
   demand-same : hourDemand s ≡ hourDemand t
-  unfolding hourDemand commercial ownImport lossShare consumptions consumption losses entering leaving imported
+  unfolding hourDemand commercial ownImport lossShare consumptions consumption losses entering leaving delivered imported
       exported retails
   demand-same = rw (e .kinds, e .owners, e .factors, e .imports, e .exports)
 
   losses-same : losses s ≡ losses t
-  unfolding losses entering leaving imported exported
+  unfolding losses entering leaving delivered consumption ownImport imported exported retails
   losses-same = rw (e .kinds, e .owners, e .factors, e .imports, e .exports)
 
   pub first-same : (q r : Summary) → q ≡ summaryOf Verdict.Fine s → r ≡ summaryOf Verdict.Fine t
@@ -79,7 +79,7 @@ module _ (s t : Sheet) (e : Alike s t) where
 
   pub own-same : (a : ℕ) → own s a ≡ own t a
   unfolding own scheduled injected dispatchDemand smallExports outside commercial ownImport lossShare consumptions
-      consumption losses entering leaving imported exported retails
+      consumption losses entering leaving delivered imported exported retails
   own-same a =
       rw (e .kinds, e .owners, e .factors, e .imports, e .exports, e .holders, e .mustRun, e .offers, e .available)
 

@@ -16,13 +16,13 @@ use Rattle.merit.specs.Merit.{Possible, cost}
 use Rattle.merit.proofs.MustRun.{ideal-possible, ideal-least, ideal-none}
 use Rattle.hour.specs.Sheet.{Sheet, agents, plants, contracts, retails, outside}
 use Rattle.hour.specs.Sound.{Sound}
-use Rattle.hour.specs.Balance.{imported, exported, consumption, ownImport, commercial, demandBy, hourDemand, injected, smallExports, dispatchDemandBy, dispatchDemand}
+use Rattle.hour.specs.Balance.{rounded, imported, delivered, consumption, ownImport, commercial, demandBy, hourDemand, injected, smallExports, dispatchDemandBy, dispatchDemand}
 use Rattle.hour.specs.Lines.{scheduled, bolsaPrice, amount, Basis, ownBy, contractedBy, boughtOf, soldOf, basisOf, own, contracted, bought, sold, moneyOf, money}
 use Rattle.hour.specs.Signed.{signedSum}
 use Rattle.hour.specs.Answer.{coverVerdict}
 use Rattle.refusals.proofs.Fine.{not-fine}
 use Rattle.hour.proofs.Verdicts.{Balanced, covered, cover-fine, Uncovered, cover-told}
-use Rattle.hour.proofs.Demand.{generator-share, outside-retails, small-metered, small-within}
+use Rattle.hour.proofs.Demand.{generator-consumption, generator-share, outside-retails, small-metered, small-within}
 use Rattle.hour.proofs.Money.{money-sum, money-even}
 
 -- ---- refusals 10 and 13, and the schedule
@@ -112,11 +112,11 @@ Idle s demand = (a : ℕ) → a < agents s → retails s a ≡ false → demand 
 module _ (s : Sheet) (ok : Sound s) where
   retailer-import : (a : ℕ) → retails s a ≡ true → ownImport s a ≡ 0
   unfolding ownImport
-  retailer-import a e = pick-false (not (retails s a)) (imported s a) (ap not e)
+  retailer-import a e = pick-false (not (retails s a)) (rounded (imported s a)) (ap not e)
 
   inside-injects : (a : ℕ) → outside s a ≡ false → injected s a ≡ 0
   unfolding injected
-  inside-injects a e = pick-false (outside s a) (exported s a) e
+  inside-injects a e = pick-false (outside s a) (delivered s a) e
 
   retailer-injects : (a : ℕ) → retails s a ≡ true → injected s a ≡ 0
   retailer-injects a e = inside-injects a (not-so (outside s a) (λ f. true≢false (sym e ∙ outside-retails s a f)))
@@ -246,7 +246,7 @@ module _ (s : Sheet) (ok : Sound s) where
   generator-demand : Idle s (commercial s)
   unfolding commercial consumption
   generator-demand a l e =
-      omega (arith, pick-false (retails s a) (imported s a - exported s a) e, generator-share s a l e)
+      omega (arith, generator-consumption s a e, generator-share s a l e)
 
   pub own-all : (a : ℕ)
       → a < agents s

@@ -2,28 +2,33 @@
 use Prim.Native.Nat.{ℕ, _+_, _-_, _*_, _/_, _≤_, _<_}
 use native.Mathlib.Omega.{arith}
 use native.Mathlib.Nat.{mul-le-mul}
+use mathlib.Core.Path.{_≡_}
 use mathlib.Core.Bool.{Bool, true, false, not}
-use Rattle.rows.specs.Limits.{mostBoundaries, mostPlants, mostFactor, mostReading, mostOffer, mostAvailable}
-use Rattle.sums.specs.Sums.{pick, keyed}
+use Rattle.rows.specs.Limits.{mostAgents, mostBoundaries, mostPlants, mostFactor, mostReading, mostOffer, mostAvailable}
+use Rattle.sums.specs.Sums.{sum, pick, keyed}
 use Rattle.sums.specs.Lists.{at}
-use Rattle.sums.proofs.Sums.{sum-le, sum-most}
+use Rattle.sums.proofs.Sums.{sum-le, sum-add, sum-mul, sum-most}
 use Rattle.sums.proofs.Picks.{pick-le}
 use Rattle.sums.proofs.Keyed.{keyed-most, keyed-total}
 use Rattle.merit.proofs.MustRun.{ideal-within}
 use Rattle.merit.proofs.Price.{price-most}
 use Rattle.hour.specs.Sheet.{Sheet, agents, boundaries, plants, retails, outside}
 use Rattle.hour.specs.Sound.{Sound}
-use Rattle.hour.specs.Balance.{referred, imported, exported, consumption, consumed, ownImport, entering, leaving, losses, injected, dispatchDemand}
+use Rattle.hour.specs.Balance.{referred, rounded, imported, exported, consumption, consumed, ownImport, delivered, entering, leaving, losses, injected, dispatchDemand}
 use Rattle.hour.specs.Lines.{scheduled, bolsaPrice}
 
 -- ---- what the numbers are bounded by: counts of rows times the limits of a row
 
--- one referral, and all rows of a sheet together
+-- one referral in ten-thousandths, and all rows of a sheet together
 abbrev pub mostReferred : ℕ
-mostReferred = mostReading * (10000 + mostFactor) / 10000
+mostReferred = mostReading * (10000 + mostFactor)
 
+abbrev pub mostTenths : ℕ
+mostTenths = mostBoundaries * mostReferred
+
+-- the same in whole kWh: each agent may gain half a kWh
 abbrev pub mostMetered : ℕ
-mostMetered = mostBoundaries * mostReferred
+mostMetered = (mostTenths + 5000 * mostAgents) / 10000
 
 -- all plants together
 abbrev pub mostScheduled : ℕ
@@ -33,32 +38,64 @@ mostScheduled = mostPlants * mostAvailable
 pub referred-le : (x f : ℕ) → x ≤ mostReading → f ≤ mostFactor → referred x f ≤ mostReferred
 unfolding referred
 referred-le x f h k =
-    let p : x * (10000 + f) ≤ mostReading * (10000 + mostFactor) = mul-le-mul {n₂ = mostReading} {m₂ = 10000 + mostFactor} h (omega arith) in omega arith
+    let p : x * (10000 + f) ≤ mostReading * (10000 + mostFactor) =
+    mul-le-mul {n₂ = mostReading} {m₂ = 10000 + mostFactor} h (omega arith) in omega arith
+
+-- ---- rounding
+pub rounded-le : (x y : ℕ) → x ≤ y → rounded x ≤ rounded y
+unfolding rounded
+rounded-le x y h = omega arith
+
+pub rounded-tenths : (x : ℕ) → 10000 * rounded x ≤ x + 5000
+unfolding rounded
+rounded-tenths x = omega arith
+
+pub rounded-whole : (x : ℕ) → rounded (10000 * x) ≡ x
+unfolding rounded
+rounded-whole x = omega arith
 
 module _ (s : Sheet) where
-  pub consumption-le : (a : ℕ) → consumption s a ≤ imported s a
+  pub consumption-le : (a : ℕ) → consumption s a ≤ rounded (imported s a)
   unfolding consumption
-  consumption-le a = let h : consumption s a ≤ imported s a - exported s a = pick-le _ _ in omega arith
+  consumption-le a =
+      let h : consumption s a ≤ rounded (imported s a - exported s a) = pick-le _ _ in
+      omega (arith, rounded-le (imported s a - exported s a) (imported s a) (omega arith))
 
-  pub import-le : (a : ℕ) → ownImport s a ≤ imported s a
+  pub import-le : (a : ℕ) → ownImport s a ≤ rounded (imported s a)
   unfolding ownImport
-  import-le a = pick-le (not (retails s a)) (imported s a)
+  import-le a = pick-le (not (retails s a)) (rounded (imported s a))
 
+  delivered-le : (a : ℕ) → delivered s a ≤ rounded (exported s a)
+  unfolding delivered
+  delivered-le a = pick-le (not (retails s a)) (rounded (exported s a))
+
+  pub injected-part : (a : ℕ) → injected s a ≤ delivered s a
+  unfolding injected
+  injected-part a = pick-le (outside s a) (delivered s a)
+
+  pub injected-le : (a : ℕ) → injected s a ≤ rounded (exported s a)
+  injected-le a = omega (arith, injected-part a, delivered-le a)
+
+  -- sums that are part of what leaves and of what enters
   pub consumed-le : consumed s ≤ leaving s
   unfolding consumed leaving
-  consumed-le = sum-le (agents s) _ _ (λ a l. consumption-le a)
+  consumed-le = sum-le (agents s) _ _ (λ a l. omega arith)
 
-  pub injected-le : (a : ℕ) → injected s a ≤ exported s a
-  unfolding injected
-  injected-le a = pick-le (outside s a) (exported s a)
+  pub imports-within : sum (agents s) (ownImport s) ≤ leaving s
+  unfolding leaving
+  imports-within = sum-le (agents s) _ _ (λ a l. omega arith)
+
+  pub injects-within : sum (agents s) (injected s) ≤ entering s
+  unfolding entering
+  injects-within = sum-le (agents s) _ _ (λ a l. injected-part a)
 
   -- consumption is a retailer's, own import a generator's
-  pub taken-le : (a : ℕ) → consumption s a + ownImport s a ≤ imported s a
+  taken-le : (a : ℕ) → consumption s a + ownImport s a ≤ rounded (imported s a)
   unfolding consumption ownImport pick
   taken-le a = go (retails s a)
     where
-      go : (b : Bool) → pick b (imported s a - exported s a) + pick (not b) (imported s a) ≤ imported s a
-      go true = omega arith
+      go : (b : Bool) → pick b (rounded (imported s a - exported s a)) + pick (not b) (rounded (imported s a)) ≤ rounded (imported s a)
+      go true = omega (arith, rounded-le (imported s a - exported s a) (imported s a) (omega arith))
       go false = omega arith
 
   module _ (ok : Sound s) where
@@ -68,9 +105,9 @@ module _ (s : Sheet) where
     pub row-export-le : (j : ℕ) → j < boundaries s → referred (at (s .exports) j) (at (s .factors) j) ≤ mostReferred
     row-export-le j l = referred-le _ _ (ok .boundary j l .export) (ok .boundary j l .factor)
 
-    pub imported-le : (a : ℕ) → imported s a ≤ mostMetered
+    pub imported-tenths : (a : ℕ) → imported s a ≤ mostTenths
     unfolding imported
-    imported-le a =
+    imported-tenths a =
         omega (
           arith,
           keyed-most (at (s .owners)) (λ j. referred (at (s .imports) j) (at (s .factors) j)) (boundaries s) a mostReferred
@@ -78,15 +115,49 @@ module _ (s : Sheet) where
           ok .few .boundaries,
         )
 
+    pub exported-tenths : (a : ℕ) → exported s a ≤ mostTenths
+    unfolding exported
+    exported-tenths a =
+        omega (
+          arith,
+          keyed-most (at (s .owners)) (λ j. referred (at (s .exports) j) (at (s .factors) j)) (boundaries s) a mostReferred
+              row-export-le,
+          ok .few .boundaries,
+        )
+
+    pub imported-le : (a : ℕ) → rounded (imported s a) ≤ mostMetered
+    imported-le a = omega (arith, rounded-tenths (imported s a), imported-tenths a)
+
+    pub exported-le : (a : ℕ) → rounded (exported s a) ≤ mostMetered
+    exported-le a = omega (arith, rounded-tenths (exported s a), exported-tenths a)
+
+    -- rounded agent by agent, a sum gains at most half a kWh an agent
+    whole-le : (f : ℕ → ℕ) → sum (agents s) f ≤ mostTenths → sum (agents s) (λ a. rounded (f a)) ≤ mostMetered
+    whole-le f h =
+        let n = agents s in
+        omega (
+          arith,
+          sum-mul n 10000 (λ a. rounded (f a)),
+          sum-le n (λ a. 10000 * rounded (f a)) (λ a. f a + 5000) (λ a l. rounded-tenths (f a)),
+          sum-add n f (λ a. 5000),
+          sum-most n 5000 (λ a. 5000) (λ a l. omega arith),
+          ok .few .agents,
+        )
+
     pub leaving-le : leaving s ≤ mostMetered
     unfolding leaving imported
     leaving-le =
         omega (
           arith,
-          keyed-total (at (s .owners)) (λ j. referred (at (s .imports) j) (at (s .factors) j)) (agents s)
-              (boundaries s) (λ j l. ok .boundary j l .there),
-          sum-most (boundaries s) mostReferred (λ j. referred (at (s .imports) j) (at (s .factors) j)) row-import-le,
-          ok .few .boundaries,
+          sum-le (agents s) (λ a. consumption s a + ownImport s a) (λ a. rounded (imported s a)) (λ a l. taken-le a),
+          whole-le (imported s)
+              (omega (
+                arith,
+                keyed-total (at (s .owners)) (λ j. referred (at (s .imports) j) (at (s .factors) j)) (agents s)
+                    (boundaries s) (λ j l. ok .boundary j l .there),
+                sum-most (boundaries s) mostReferred (λ j. referred (at (s .imports) j) (at (s .factors) j)) row-import-le,
+                ok .few .boundaries,
+              )),
         )
 
     pub entering-le : entering s ≤ mostMetered
@@ -94,20 +165,15 @@ module _ (s : Sheet) where
     entering-le =
         omega (
           arith,
-          keyed-total (at (s .owners)) (λ j. referred (at (s .exports) j) (at (s .factors) j)) (agents s)
-              (boundaries s) (λ j l. ok .boundary j l .there),
-          sum-most (boundaries s) mostReferred (λ j. referred (at (s .exports) j) (at (s .factors) j)) row-export-le,
-          ok .few .boundaries,
-        )
-
-    pub exported-le : (a : ℕ) → exported s a ≤ mostMetered
-    unfolding exported
-    exported-le a =
-        omega (
-          arith,
-          keyed-most (at (s .owners)) (λ j. referred (at (s .exports) j) (at (s .factors) j)) (boundaries s) a mostReferred
-              row-export-le,
-          ok .few .boundaries,
+          sum-le (agents s) (delivered s) (λ a. rounded (exported s a)) (λ a l. delivered-le a),
+          whole-le (exported s)
+              (omega (
+                arith,
+                keyed-total (at (s .owners)) (λ j. referred (at (s .exports) j) (at (s .factors) j)) (agents s)
+                    (boundaries s) (λ j l. ok .boundary j l .there),
+                sum-most (boundaries s) mostReferred (λ j. referred (at (s .exports) j) (at (s .factors) j)) row-export-le,
+                ok .few .boundaries,
+              )),
         )
 
     pub losses-le : losses s ≤ mostMetered

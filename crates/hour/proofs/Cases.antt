@@ -13,15 +13,33 @@ use Rattle.merit.specs.Merit.{before, ahead, schedule, idealDispatch, hourPrice
 use Rattle.deals.specs.Deals.{stands, aheadOf, firmAt, restOf, cheaperOf, groupOf, demandedAt, amountAt, amountsOf}
 use Rattle.deals.specs.Hour.{ownTo, ownCount, ownOf, hourAmount}
 use Rattle.hour.specs.Sheet.{Sheet, agents, plants, contracts, retails, outside}
-use Rattle.hour.specs.Balance.{referred, imported, exported, consumption, consumed, ownImport, entering, leaving, losses, consumptions, lossShare, commercial, demands, hourDemand, injected, smallExports, dispatchDemand}
+use Rattle.hour.specs.Balance.{referred, rounded, imported, exported, consumption, consumed, ownImport, delivered, entering, leaving, losses, consumptions, lossShare, commercial, demands, hourDemand, injected, smallExports, dispatchDemand}
 use Rattle.hour.specs.Lines.{scheduled, bolsaPrice, amount, own, contracted, bought, sold, moneyOf, money, cellsPerAgent, cellOf, figure}
 use Rattle.hour.specs.Answer.{Lent, firstOver, balanceVerdict, coverVerdict, roomVerdict, hourVerdict}
 
--- what is asked: a referral, a sharing, or of a sheet its first refusal of 7 to 11 and 13 (0 with none) where each lent list has so many
--- cells, its amounts, what agent a sells,
--- its price and schedule, its first line with the agents' figures, its money
+-- a retailer alone, with these boundary rows
+abbrev rowsOf : (imports exports factors : List ℕ) → Sheet
+rowsOf imports exports factors =
+    record {
+      kinds = 1 ∷ [];
+      owners = map (λ (x : ℕ). 0) imports;
+      factors = factors;
+      imports = imports;
+      exports = exports;
+      holders = [];
+      flags = [];
+      mustRun = [];
+      offers = [];
+      available = [];
+      sellers = [];
+      deals = record { buyers = []; kinds = []; prices = []; quantities = [] };
+    }
+
+-- what is asked: the consumption of a retailer with these rows, a sharing, or of a sheet its first refusal of 7 to 11 and 13 (0 with
+-- none) where each lent list has so many cells, its amounts, what agent a sells, its price and schedule, its first line with the agents'
+-- figures, its money
 pub data Ask : Type 0 where
-  referralOf : (reading factor : ℕ) → Ask
+  consumptionOf : (imports exports factors : List ℕ) → Ask
   sharesOf : (amount : ℕ) (weights : List ℕ) → Ask
   refusalOf : (room : ℕ) → Sheet → Ask
   amountsIn : Sheet → Ask
@@ -40,7 +58,7 @@ lists n =
     }
 
 unfoldable pub answer : Ask → List ℤ
-answer (referralOf x f) = pos (referred x f) ∷ []
+answer (consumptionOf is es fs) = pos (consumption (rowsOf is es fs) 0) ∷ []
 answer (sharesOf a ws) = listTo (λ i. pos (shareOf a ws i)) (length ws)
 answer (refusalOf room s) = pos (numberOf (hourVerdict s (lists room))) ∷ []
 answer (amountsIn s) = listTo (λ j. pos (amount s j)) (contracts s)
@@ -150,9 +168,16 @@ wholeHour =
 unfoldable pub cases : List Case
 cases =
     -- 1
-    asked (referralOf 1 5000) (2 ∷ [])
-    ∷ asked (referralOf 1 4999) (1 ∷ [])
-    ∷ asked (referralOf 0 5000) (0 ∷ [])
+    asked (consumptionOf (1 ∷ []) (0 ∷ []) (5000 ∷ [])) (2 ∷ [])
+    ∷ asked (consumptionOf (1 ∷ []) (0 ∷ []) (4999 ∷ [])) (1 ∷ [])
+    ∷ asked (consumptionOf (0 ∷ []) (0 ∷ []) (5000 ∷ [])) (0 ∷ [])
+    -- P7: rounded once: two such rows make 3; what is taken off an import of 1.5 is an export of 1.4, not of 1, and leaves nothing
+    ∷ asked (consumptionOf (1 ∷ 1 ∷ []) (0 ∷ 0 ∷ []) (5000 ∷ 5000 ∷ [])) (3 ∷ [])
+    ∷ asked (consumptionOf (1 ∷ 0 ∷ []) (0 ∷ 1 ∷ []) (5000 ∷ 4000 ∷ [])) (0 ∷ [])
+    -- 7 compares the exact sums: imports 1.4 twice and an export of 2.8, where rows rounded by themselves make 2 and 3; imports 1.5 twice
+    -- and an export of 3.3, where they make 4 and 3
+    ∷ asked (refusalOf 6 (rowsOf (1 ∷ 1 ∷ 0 ∷ []) (0 ∷ 0 ∷ 2 ∷ []) (4000 ∷ 4000 ∷ 4000 ∷ []))) (0 ∷ [])
+    ∷ asked (refusalOf 6 (rowsOf (1 ∷ 1 ∷ 0 ∷ []) (0 ∷ 0 ∷ 3 ∷ []) (5000 ∷ 5000 ∷ 1000 ∷ []))) (7 ∷ [])
     -- 2
     ∷ asked (sharesOf 10 (1 ∷ 1 ∷ 1 ∷ [])) (4 ∷ 3 ∷ 3 ∷ [])
     ∷ asked (sharesOf 1 (1 ∷ 1 ∷ [])) (1 ∷ 0 ∷ [])
@@ -242,5 +267,5 @@ cases =
     ∷ []
 
 pub cases-hold : map (λ (c : Case). answer (c .ask)) cases ≡ map (λ (c : Case). c .due) cases
-unfolding answer cases sum peak pick keyed stop first total listTo leftOver goesBefore rankOf shareOf before ahead schedule idealDispatch hourPrice stands aheadOf firmAt restOf cheaperOf groupOf demandedAt amountAt amountsOf ownTo ownCount ownOf hourAmount retails outside referred imported exported consumption consumed ownImport entering leaving losses consumptions lossShare commercial demands hourDemand injected smallExports dispatchDemand scheduled bolsaPrice amount own contracted bought sold moneyOf money cellOf figure firstOver balanceVerdict coverVerdict roomVerdict hourVerdict
+unfolding answer cases sum peak pick keyed stop first total listTo leftOver goesBefore rankOf shareOf before ahead schedule idealDispatch hourPrice stands aheadOf firmAt restOf cheaperOf groupOf demandedAt amountAt amountsOf ownTo ownCount ownOf hourAmount retails outside referred rounded imported exported consumption consumed ownImport delivered entering leaving losses consumptions lossShare commercial demands hourDemand injected smallExports dispatchDemand scheduled bolsaPrice amount own contracted bought sold moneyOf money cellOf figure firstOver balanceVerdict coverVerdict roomVerdict hourVerdict
 cases-hold = refl

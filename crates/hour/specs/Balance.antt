@@ -1,4 +1,4 @@
--- Document 01, 'From readings to commercial demand', and document 02, P5. Assumes nothing.
+-- Document 01, 'From readings to commercial demand', with document 02, P5 and P7. Assumes nothing.
 use Prim.Native.Nat.{ℕ, _+_, _-_, _*_, _/_}
 use mathlib.Core.List.{List}
 use mathlib.Core.Bool.{not}
@@ -7,34 +7,42 @@ use Rattle.sums.specs.Lists.{at, listTo}
 use Rattle.share.specs.Share.{shareOf}
 use Rattle.hour.specs.Sheet.{Sheet, agents, boundaries, retails, outside}
 
--- 1. Referral (1.1.1.2.3): a reading times (10,000 + factor), plus 5,000, divided by 10,000, rounded down
+-- 1. Referral (1.1.1.2.3) hands on the exact ten-thousandths: a reading times (10,000 + factor)
 unfoldable pub referred : (reading factor : ℕ) → ℕ
-referred x f = (x * (10000 + f) + 5000) / 10000
+referred x f = x * (10000 + f)
 
--- each import and each export of each row by itself, summed by agent
+-- ten-thousandths as whole kWh, half upwards
+unfoldable pub rounded : ℕ → ℕ
+rounded x = (x + 5000) / 10000
+
+-- imports and exports, in ten-thousandths, summed exactly by agent
 unfoldable pub imported : Sheet → ℕ → ℕ
 imported s a = keyed (at (s .owners)) (λ j. referred (at (s .imports) j) (at (s .factors) j)) (boundaries s) a
 
 unfoldable pub exported : Sheet → ℕ → ℕ
 exported s a = keyed (at (s .owners)) (λ j. referred (at (s .exports) j) (at (s .factors) j)) (boundaries s) a
 
--- 2. A retailer's consumption is its referred imports less its referred exports
+-- 2. A retailer's consumption is its referred imports less its referred exports, rounded once
 unfoldable pub consumption : Sheet → ℕ → ℕ
-consumption s a = pick (retails s a) (imported s a - exported s a)
+consumption s a = pick (retails s a) (rounded (imported s a - exported s a))
 
 unfoldable pub consumed : Sheet → ℕ
 consumed s = sum (agents s) (consumption s)
 
--- a generator's import is its own consumption
+-- a generator's import is its own consumption, its export net generation; it has no factor, so both are whole kWh
 unfoldable pub ownImport : Sheet → ℕ → ℕ
-ownImport s a = pick (not (retails s a)) (imported s a)
+ownImport s a = pick (not (retails s a)) (rounded (imported s a))
 
--- 3. Losses (1.1.1.2.2): all energy entering the national system less all energy leaving it
+unfoldable pub delivered : Sheet → ℕ → ℕ
+delivered s a = pick (not (retails s a)) (rounded (exported s a))
+
+-- 3. Losses (1.1.1.2.2): all energy entering the national system, generator exports, less all energy leaving it, generator imports and
+-- the rounded consumptions
 unfoldable pub entering : Sheet → ℕ
-entering s = sum (agents s) (exported s)
+entering s = sum (agents s) (delivered s)
 
 unfoldable pub leaving : Sheet → ℕ
-leaving s = sum (agents s) (imported s)
+leaving s = sum (agents s) (λ a. consumption s a + ownImport s a)
 
 unfoldable pub losses : Sheet → ℕ
 losses s = entering s - leaving s
@@ -68,7 +76,7 @@ generated s = sum (boundaries s) (λ j. pick (not (retails s (at (s .owners) j))
 
 -- what a small generator delivers is its metered export
 unfoldable pub injected : Sheet → ℕ → ℕ
-injected s a = pick (outside s a) (exported s a)
+injected s a = pick (outside s a) (delivered s a)
 
 -- small generators' exports, over their boundary rows
 unfoldable pub smallExports : Sheet → ℕ

@@ -25,7 +25,7 @@ use Rattle.hour.specs.Lines.{own, contracted, bought, sold, bolsaPrice, money, 
 use Rattle.hour.specs.Answer.{balanceVerdict, coverVerdict, summaryOf}
 use Rattle.hour.proofs.Verdicts.{Balanced, balanced}
 use Rattle.hour.proofs.Bounds.{imported-le, import-le, losses-le, price-le}
-use Rattle.hour.proofs.Fits.{contracted-le, demand-most, own-le, bought-le, sold-le}
+use Rattle.hour.proofs.Fits.{mostBought, contracted-le, demand-most, own-le, bought-le, sold-le}
 use Rattle.hour.proofs.Money.{money-pos, money-neg}
 use Rattle.columns.specs.Columns.{columnsOf, hourOf}
 use Rattle.columns.proofs.Columns.{agents-long, kind-at, sound}
@@ -38,11 +38,11 @@ abs-neg : (x : ℕ) → natAbs (negℤ (pos x)) ≡ x
 abs-neg zero = refl
 abs-neg (suc x) = refl
 
-money-small : (x y p : ℕ) → x ≤ 2560000000 → y ≤ 2560000000 → p ≤ mostOffer → natAbs (moneyOf x y p) < 10 ^ (15 + 1)
+money-small : (x y p : ℕ) → x ≤ mostBought → y ≤ mostBought → p ≤ mostOffer → natAbs (moneyOf x y p) < 10 ^ (15 + 1)
 money-small x y p h k l = go (decLt x y)
   where
-    most : (z : ℕ) → z ≤ 2560000000 → z * p ≤ 2560000000 * 1000000
-    most z m = mul-le-mul m l
+    most : (z : ℕ) → z ≤ mostBought → z * p ≤ mostBought * mostOffer
+    most z m = mul-le-mul {n₂ = mostBought} {m₂ = mostOffer} m l
 
     go : Dec (x < y) → natAbs (moneyOf x y p) < 10 ^ (15 + 1)
     go (yes m) = rw (money-neg x y p m, abs-neg ((y - x) * p)) (omega (arith, most (y - x) (omega arith)))

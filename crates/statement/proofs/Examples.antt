@@ -13,7 +13,7 @@ use Rattle.merit.specs.Merit.{hourPrice}
 use Rattle.deals.specs.Deals.{cheaperOf, groupOf}
 use Rattle.deals.specs.Hour.{ownTo, ownOf}
 use Rattle.hour.specs.Sheet.{retails, outside}
-use Rattle.hour.specs.Balance.{referred, imported, exported, consumption, consumed, ownImport, entering, leaving, losses, injected, smallExports}
+use Rattle.hour.specs.Balance.{referred, rounded, imported, exported, consumption, consumed, ownImport, delivered, entering, leaving, losses, injected, smallExports}
 use Rattle.hour.specs.Lines.{moneyOf}
 use Rattle.hour.specs.Answer.{Lent}
 use Rattle.hour.proofs.Cases.{wholeHour}
@@ -60,7 +60,7 @@ due n =
     0))))
 
 pub first-told : listTo (λ n. numberOf (pointsVerdict wholeHour (priceStated n) (stated n))) 32 ≡ listTo due 32
-unfolding sum peak pick keyed total listTo hourPrice cheaperOf groupOf ownTo ownOf retails referred imported exported consumption
+unfolding sum peak pick keyed total listTo hourPrice cheaperOf groupOf ownTo ownOf retails referred rounded imported exported delivered consumption
     consumed ownImport entering leaving losses outside injected smallExports moneyOf leftBy givenAt every below fixedAt takenAt largestAt conditionalGood
     isNear demandedGood rowGood good statedOf hourGood shareGood sharesGood dearest scheduleGood priceGood amountsGood lineGood
     linesGood pointsVerdict
@@ -90,7 +90,7 @@ otherRounding =
     }
 
 pub accepted : (numberOf (pointsVerdict wholeHour 8000 longer) ≡ 0) × (numberOf (pointsVerdict wholeHour 8000 otherRounding) ≡ 0)
-unfolding sum peak pick keyed total listTo hourPrice cheaperOf groupOf ownTo ownOf retails referred imported exported consumption
+unfolding sum peak pick keyed total listTo hourPrice cheaperOf groupOf ownTo ownOf retails referred rounded imported exported delivered consumption
     consumed ownImport entering leaving losses outside injected smallExports moneyOf leftBy givenAt every below fixedAt takenAt largestAt conditionalGood
     isNear demandedGood rowGood good statedOf hourGood shareGood sharesGood dearest scheduleGood priceGood amountsGood lineGood
     linesGood pointsVerdict

@@ -7,17 +7,16 @@ use lib.IntN.{pos}
 use Rattle.sums.specs.Sums.{sum}
 use Rattle.sums.specs.Lists.{at}
 use Rattle.sums.proofs.Sums.{sum-eq, sum-add, sum-term}
-use Rattle.sums.proofs.Picks.{pick-false}
 use Rattle.merit.specs.Merit.{Possible, cost}
 use Rattle.merit.proofs.LeastCost.{merit-least}
 use Rattle.hour.specs.Sheet.{Sheet, agents, plants, retails}
 use Rattle.hour.specs.Sound.{Sound}
-use Rattle.hour.specs.Balance.{imported, exported, consumption, ownImport, losses, lossShare, commercial, demandBy, hourDemand, smallExports, dispatchDemandBy, dispatchDemand}
+use Rattle.hour.specs.Balance.{consumption, ownImport, losses, lossShare, commercial, demandBy, hourDemand, smallExports, dispatchDemandBy, dispatchDemand}
 use Rattle.hour.specs.Lines.{boughtOf, soldOf, moneyOf}
 use Rattle.hour.specs.Signed.{signedSum}
 use Rattle.hour.specs.Answer.{Lent, shareIn, ownIn, contractedIn, boughtIn, soldIn, moneyIn, scheduleIn}
 use Rattle.hour.proofs.Verdicts.{Balanced}
-use Rattle.hour.proofs.Demand.{loss-shares, small-within}
+use Rattle.hour.proofs.Demand.{generator-consumption, loss-shares, small-within}
 use Rattle.hour.proofs.Money.{signed-eq}
 use Rattle.hour.proofs.Balance.{Idle, bought-sold-by, money-none-by}
 use Rattle.statement.specs.Points.{demandIn, least, basisIn, SharesFollow, ScheduleFollows, Holds}
@@ -25,8 +24,7 @@ use Rattle.statement.specs.Points.{demandIn, least, basisIn, SharesFollo
 module _ (s : Sheet) (l : Lent) where
   -- generators have no demand, with their shares either
   pub idle-in : SharesFollow s l → Idle s (demandIn s l)
-  unfolding consumption
-  idle-in f a h e = omega (arith, pick-false (retails s a) (imported s a - exported s a) e, f .generator a h e)
+  idle-in f a h e = omega (arith, generator-consumption s a e, f .generator a h e)
 
   -- a share is at most the losses
   pub share-in-le : SharesFollow s l → (a : ℕ) → a < agents s → shareIn l a ≤ losses s

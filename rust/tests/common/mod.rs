@@ -17,7 +17,7 @@ fn sizes(random: &mut Random) -> [usize; 4] {
 }
 
 fn referred(reading: u32, factor: u32) -> u64 {
-    (reading as u64 * (10_000 + factor as u64) + 5_000) / 10_000
+    reading as u64 * (10_000 + factor as u64)
 }
 
 /// Cuts an amount into parts of at most `most` each; hands back what did not fit.
@@ -97,7 +97,7 @@ fn readings(random: &mut Random, rows: &mut Rows, count: usize, scale: u32, gene
         let import = if random.once_in(5) { 0 } else { random.range(0, scale) };
         if rows.agents[a] != 1 {
             let own = if random.once_in(3) { import / 8 } else { 0 };
-            imports[a] += own as u64;
+            imports[a] += referred(own, 0);
             rows.boundaries.push([wanted, 0, own, 0]);
             continue;
         }
@@ -111,9 +111,10 @@ fn readings(random: &mut Random, rows: &mut Rows, count: usize, scale: u32, gene
         exports[a] += referred(export, factor);
         rows.boundaries.push([wanted, factor, import, export]);
     }
-    let consumed: Vec<u64> = (0..agents).map(|a| if rows.agents[a] == 1 { imports[a] - exports[a] } else { 0 }).collect();
+    let rounded = |a: usize| (imports[a] - exports[a] + 5_000) / 10_000;
+    let consumed: Vec<u64> = (0..agents).map(|a| if rows.agents[a] == 1 { rounded(a) } else { 0 }).collect();
     let total: u64 = consumed.iter().sum();
-    let gained = imports.iter().sum::<u64>() - exports.iter().sum::<u64>();
+    let gained: u64 = (0..agents).map(rounded).sum();
     let some = random.below(scale as u64 + 1);
     let losses = if total == 0 { 0 } else { random.pick(&[0, 1, 2, total / 50, total / 7, some, 3 * total]) };
     let meters: Vec<usize> = (0..count).filter(|&j| rows.agents[rows.boundaries[j][0] as usize] != 1).collect();

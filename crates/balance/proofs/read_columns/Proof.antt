@@ -9,7 +9,8 @@ use Rattle.sums.specs.Lists.{Filled}
 use Rattle.sums.proofs.Fill.{filled-by}
 use Rattle.sheet.proofs.Accepted.{accepted-few}
 use Rattle.columns.specs.Columns.{columnsOf}
-use Rattle.columns.proofs.Columns.{agents-long}
+use Rattle.columns.proofs.Columns.{agents-long, sound}
+use Rattle.hour.proofs.Bounds.{imported-tenths}
 use Rattle.hour.specs.Sheet.{Sheet}
 use Rattle.hour.specs.Balance.{consumption}
 use Rattle.balance.specs.Balances.{zeros}
@@ -29,6 +30,9 @@ imports-to-kinds-of c = c .before .before .before .before .before .before
 
 abbrev consumptions-arg4-to-kinds-of : tie.After-consumptions-arg4 → tie.After-kinds-of
 consumptions-arg4-to-kinds-of c = imports-to-kinds-of (c .before .before .before .before .before .before .before)
+
+abbrev consumptions-arg4-to-meter : tie.After-consumptions-arg4 → tie.After-meter
+consumptions-arg4-to-meter c = c .before .before .before .before .before .before .before .before
 
 abbrev consumptions-arg4-to-start : tie.After-consumptions-arg4 → tie.Start
 consumptions-arg4-to-start c = kinds-of-arg-to-start (consumptions-arg4-to-kinds-of c .before)
@@ -61,20 +65,27 @@ meter-requires c κs = (
 
 consumptions-requires : tie.Need-consumptions-requires
 consumptions-requires c κs = (
-  omega (
-    arith,
-    consumptions-arg4-to-kinds-of c .kinds-of .ensures .long,
-    room (consumptions-arg4-to-start c) _ (consumptions-arg4-to-start c .pre .1 .0),
+  (
+    omega (
+      arith,
+      consumptions-arg4-to-kinds-of c .kinds-of .ensures .long,
+      room (consumptions-arg4-to-start c) _ (consumptions-arg4-to-start c .pre .1 .0),
+    ),
+    omega (
+      arith,
+      room (consumptions-arg4-to-start c) _ (consumptions-arg4-to-start c .pre .1 .1),
+    ),
+    omega (
+      arith,
+      room (consumptions-arg4-to-start c) _ (consumptions-arg4-to-start c .pre .1 .2),
+    ),
+    room (consumptions-arg4-to-start c) _ (consumptions-arg4-to-start c .pre .1 .3),
   ),
-  omega (
+  λ a l. omega (
     arith,
-    room (consumptions-arg4-to-start c) _ (consumptions-arg4-to-start c .pre .1 .1),
+    consumptions-arg4-to-meter c .meter .ensures .took a (omega (arith, few (consumptions-arg4-to-start c))),
+    imported-tenths (sheet (consumptions-arg4-to-start c)) (sound _ _ (consumptions-arg4-to-start c .pre .0)) a,
   ),
-  omega (
-    arith,
-    room (consumptions-arg4-to-start c) _ (consumptions-arg4-to-start c .pre .1 .2),
-  ),
-  room (consumptions-arg4-to-start c) _ (consumptions-arg4-to-start c .pre .1 .3),
 )
 
 returns : tie.Need-returns

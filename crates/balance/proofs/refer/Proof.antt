@@ -8,17 +8,10 @@ use Rattle.balance.proofs.refer.Statement.{statement}
 use Rattle.balance.proofs.refer.Tie as tie
 
 -- a reading within its limit, times a factor within its limit
-small : (c : tie.After-wide2) → c .before .wide .result * c .wide2 .result ≤ mostReading * (10000 + mostFactor)
-small c = mul-le-mul {n₂ = mostReading} {m₂ = 10000 + mostFactor} (omega arith) (omega arith)
-
 mul-result : tie.Need-mul-result
-mul-result c = omega (arith, small c)
-
-add-result : tie.Need-add-result
-add-result c = omega (arith, small c)
-
-cast-result : tie.Need-cast-result
-cast-result c = omega (arith, small c)
+mul-result c =
+    let small : (c .before) .wide .result * c .wide2 .result ≤ mostReading * (10000 + mostFactor) =
+    mul-le-mul {n₂ = mostReading} {m₂ = 10000 + mostFactor} (omega arith) (omega arith) in omega (arith, small)
 
 returns : tie.Need-returns
 unfolding referred
@@ -26,6 +19,4 @@ returns c = simp (c .before .wide .ensures, c .wide2 .ensures)
 
 pub refer-spec : {M : Type 1} → statement M
 refer-spec =
-    tie.close
-    (tie.spec (λ c κs. search needs) (λ c. search needs) (λ c κs. search needs) mul-result add-result cast-result
-    returns)
+    tie.close (tie.spec (λ c κs. search needs) (λ c. search needs) (λ c κs. search needs) mul-result returns)

@@ -4,21 +4,26 @@ use Prim.Native.Nat.{_≤_, _-_}
 use mathlib.Core.Path.{_≡_}
 use mathlib.Core.Bool.{not}
 use Rattle.rows.specs.Rows.{carriesLosses}
+use Rattle.hour.specs.Balance.{rounded}
 use Rattle.sums.specs.Sums.{pick}
 use Rattle.sums.specs.Lists.{at, Filled}
 use Rattle.sums.proofs.Fill.{filled-none, filled-more}
-use Rattle.balance.proofs.own_imports.Statement.{statement}
-use Rattle.balance.proofs.own_imports.Tie as tie
+use Rattle.balance.proofs.generators.Statement.{statement}
+use Rattle.balance.proofs.generators.Tie as tie
 
 abbrev Inv-loop : tie.InvT-loop
-Inv-loop kinds imports n out₀ a₀ out a =
-    (a ≤ n) × Filled 0 out₀ out a (λ k. pick (not (carriesLosses (at kinds k))) (at imports k))
+Inv-loop kinds values n out₀ a₀ out a =
+    (a ≤ n) × Filled 0 out₀ out a (λ k. pick (not (carriesLosses (at kinds k))) (rounded (at values k)))
 
 abbrev μ-loop : tie.MeasureT-loop
-μ-loop kinds imports n out₀ a₀ out a = n - a
+μ-loop kinds values n out₀ a₀ out a = n - a
 
 loop-holds : tie.Need-loop-holds Inv-loop μ-loop
 loop-holds c = (omega arith, filled-none 0 _ _)
+
+of-generator-requires : tie.Need-of-generator-requires Inv-loop μ-loop
+of-generator-requires c κs =
+    let at-loop = c .before .before .before in (at-loop .before .before) .pre .1 (at-loop .loop .a) (omega arith)
 
 mul-out : tie.Need-mul-out Inv-loop μ-loop
 mul-out c = omega (arith, (c .before .before .before .before) .loop .inv .1 .long)
@@ -39,9 +44,9 @@ returns c =
     let e : (c .before) .loop .a ≡ (c .before .before .before) .args .n = omega arith in
     rw e at ((c .before) .loop .inv .1)
 
-pub own-imports-spec : {M : Type 1} → statement M
-own-imports-spec =
+pub generators-spec : {M : Type 1} → statement M
+generators-spec =
     tie.close
     (tie.spec Inv-loop μ-loop loop-holds (λ c. search needs) (λ c. search needs) (λ c. search needs)
-    (λ c. search needs) (λ c κs. search needs) mul-out slice-write-out (λ c. search needs) (λ c. search needs)
+    (λ c. search needs) of-generator-requires mul-out slice-write-out (λ c. search needs) (λ c. search needs)
     loop-again same-length returns)
