@@ -37,8 +37,12 @@
 #define NAOMHRAL_BOOK 124 /* cells of a day's book: five for each of 24 places, and four totals */
 #define NAOMHRAL_BOOK_TOTALS 120 /* the first of the four totals */
 
+/* The hours of a day. The part of hour h in a list of a day has as many cells as suffice for every sheet, from h times that on. */
+#define NAOMHRAL_HOURS 24
+
 /* The cells of the answers. */
 #define NAOMHRAL_SUMMARY 5
+#define NAOMHRAL_DAY_SUMMARIES 120 /* five an hour */
 #define NAOMHRAL_READ_ANSWER 6
 #define NAOMHRAL_WRITE_ANSWER 3
 #define NAOMHRAL_PAGE_ANSWER 3
@@ -109,6 +113,27 @@ uint32_t naomhral_settle(
     size_t amounts_length, /* at least the contracts */
     uint32_t *summary, /* number, place, price (centavos per kWh), demand and losses (kWh); the last three are 0 if refused */
     size_t summary_length /* at least 5 */
+);
+
+/* Settles the 24 hours of a day, each as naomhral_settle settles its sheet alone into its own part of the four lists: hour h's part
+ * of the figures is the NAOMHRAL_FIGURES_MOST cells from NAOMHRAL_FIGURES_MOST times h on, and so in the other three. An hour that is
+ * refused is told in its own summary and leaves its part as it was. Before any hour is read the whole call is refused, in all 24
+ * summaries and by the number returned: 1 if the lengths sum to more than the bytes lent, then 11 if a list is too short for 24 parts.
+ * Else 0 is returned, whatever the hours' own numbers are. The lengths are a plain array of 24, not a place and a count. */
+uint32_t naomhral_day(
+    const uint8_t *sheets, /* the sheets' bytes, one sheet behind another; bytes behind the last are not looked at */
+    size_t sheets_length, /* at least the sum of the lengths */
+    const uint32_t *lengths, /* the length of each hour's sheet: 24 cells */
+    uint32_t *figures, /* as of naomhral_settle, hour by hour */
+    size_t figures_length, /* at least 24 times NAOMHRAL_FIGURES_MOST */
+    int64_t *money, /* as of naomhral_settle, hour by hour */
+    size_t money_length, /* at least 24 times NAOMHRAL_MONEY_MOST */
+    uint32_t *schedule, /* as of naomhral_settle, hour by hour */
+    size_t schedule_length, /* at least 24 times NAOMHRAL_SCHEDULE_MOST */
+    uint32_t *amounts, /* as of naomhral_settle, hour by hour */
+    size_t amounts_length, /* at least 24 times NAOMHRAL_AMOUNTS_MOST */
+    uint32_t *summaries, /* number, place, price, demand and losses of each hour, hour by hour */
+    size_t summaries_length /* at least 120 */
 );
 
 /* Checks an administrator's statement of a sheet's hour: a price and the four lists, in the shape in which naomhral_settle leaves

@@ -93,6 +93,51 @@ pub fn settle(
     Ok(Summary { price, demand, losses })
 }
 
+/// The hours of a day.
+pub const HOURS: usize = 24;
+
+/// Each hour of a day as [`settle`] answers it, or the refusal of the whole call.
+pub type Day = Result<[Result<Summary, Refusal>; HOURS], Refusal>;
+
+/// Settles the 24 hours of a day, whose sheets stand one behind another, each as [`settle`] settles it alone into its own part of the
+/// four lists: hour h's part of the figures is the [`FIGURES_MOST`] cells from `FIGURES_MOST * h` on, and so in the other three. A
+/// refused hour leaves its part as it was. The whole call is refused before any hour is read: 1 if the lengths sum to more than the
+/// bytes lent, then 11 if a list is too short for 24 parts.
+pub fn day(
+    sheets: &[u8],
+    lengths: &[u32; HOURS],
+    figures: &mut [u32],
+    money: &mut [i64],
+    schedule: &mut [u32],
+    amounts: &mut [u32],
+) -> Day {
+    let mut summaries = [0u32; 5 * HOURS];
+    // As in `settle`; the lengths are 24 behind a pointer of their own.
+    let whole = unsafe {
+        raw::naomhral_day(
+            sheets.as_ptr(),
+            sheets.len(),
+            lengths.as_ptr(),
+            figures.as_mut_ptr(),
+            figures.len(),
+            money.as_mut_ptr(),
+            money.len(),
+            schedule.as_mut_ptr(),
+            schedule.len(),
+            amounts.as_mut_ptr(),
+            amounts.len(),
+            summaries.as_mut_ptr(),
+            summaries.len(),
+        )
+    };
+    refusal_of(whole, 0)?;
+    Ok(std::array::from_fn(|hour| {
+        let told = &summaries[5 * hour..5 * hour + 5];
+        refusal_of(told[0], told[1])?;
+        Ok(Summary { price: told[2], demand: told[3], losses: told[4] })
+    }))
+}
+
 /// Checks an administrator's statement of a sheet's hour: a price and the four lists, in the shape in which [`settle`] leaves
 /// them. Every statement that could be right is accepted, and no other. Refusals 1 to 10, 13 and 11 as in settling the sheet,
 /// then 21 to 25 for the first of the five points that fails. Cells past those needed are not looked at.

@@ -17,6 +17,22 @@ extern "C" {
         summary_length: usize,
     ) -> u32;
 
+    pub fn naomhral_day(
+        sheets: *const u8,
+        sheets_length: usize,
+        lengths: *const u32,
+        figures: *mut u32,
+        figures_length: usize,
+        money: *mut i64,
+        money_length: usize,
+        schedule: *mut u32,
+        schedule_length: usize,
+        amounts: *mut u32,
+        amounts_length: usize,
+        summaries: *mut u32,
+        summaries_length: usize,
+    ) -> u32;
+
     pub fn naomhral_check(
         sheet: *const u8,
         sheet_length: usize,

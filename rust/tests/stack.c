@@ -1,6 +1,6 @@
-/* How deep settling, printing and checking reach into the stack: each sheet of standard input (its length in four bytes, low byte
-   first, then its bytes) is settled, printed, and our own settlement of it checked, each on a stack painted beforehand; the deepest
-   byte that lost its paint is printed for each of the three. Link it so that all symbols are bound before the start (-z now), or the
+/* How deep settling, printing, checking and a day reach into the stack: each sheet of standard input (its length in four bytes, low byte
+   first, then its bytes) is settled, printed, and our own settlement of it checked, and a day settled whose 24
+   hours are that sheet, each on a stack painted beforehand; the deepest byte that lost its paint is printed for each of the four. Link it so that all symbols are bound before the start (-z now), or the
    dynamic linker's own stack is measured too. */
 #include "naomhral.h"
 #include <stdio.h>
@@ -8,7 +8,7 @@
 #include <string.h>
 #include <ucontext.h>
 
-enum { ROOM = 1 << 16, PAINT = 0xa5, CALLS = 3 };
+enum { ROOM = 1 << 16, PAINT = 0xa5, CALLS = 4 };
 
 static uint8_t stack[ROOM];
 static uint8_t sheet[1 << 16];
@@ -20,6 +20,13 @@ static uint32_t amounts[NAOMHRAL_AMOUNTS_MOST];
 static uint32_t summary[NAOMHRAL_SUMMARY];
 static uint8_t text[NAOMHRAL_PAGE_MOST];
 static uint32_t answer[NAOMHRAL_PAGE_ANSWER];
+static uint8_t sheets[NAOMHRAL_HOURS * (1 << 16)];
+static uint32_t lengths[NAOMHRAL_HOURS];
+static uint32_t day_figures[NAOMHRAL_HOURS * NAOMHRAL_FIGURES_MOST];
+static int64_t day_money[NAOMHRAL_HOURS * NAOMHRAL_MONEY_MOST];
+static uint32_t day_schedule[NAOMHRAL_HOURS * NAOMHRAL_SCHEDULE_MOST];
+static uint32_t day_amounts[NAOMHRAL_HOURS * NAOMHRAL_AMOUNTS_MOST];
+static uint32_t summaries[NAOMHRAL_DAY_SUMMARIES];
 static ucontext_t here, there;
 
 static void settle(void) {
@@ -32,6 +39,12 @@ static void page(void) { naomhral_page(sheet, length, text, NAOMHRAL_PAGE_MOST, 
 static void check(void) {
     naomhral_check(sheet, length, summary[2], figures, NAOMHRAL_FIGURES_MOST, money, NAOMHRAL_MONEY_MOST, schedule,
         NAOMHRAL_SCHEDULE_MOST, amounts, NAOMHRAL_AMOUNTS_MOST, answer, NAOMHRAL_CHECK_ANSWER);
+}
+
+static void day(void) {
+    naomhral_day(sheets, NAOMHRAL_HOURS * length, lengths, day_figures, NAOMHRAL_HOURS * NAOMHRAL_FIGURES_MOST, day_money,
+        NAOMHRAL_HOURS * NAOMHRAL_MONEY_MOST, day_schedule, NAOMHRAL_HOURS * NAOMHRAL_SCHEDULE_MOST, day_amounts,
+        NAOMHRAL_HOURS * NAOMHRAL_AMOUNTS_MOST, summaries, NAOMHRAL_DAY_SUMMARIES);
 }
 
 static void nothing(void) {}
@@ -51,22 +64,26 @@ static size_t depth(void (*run)(void)) {
 }
 
 int main(void) {
-    static void (*const calls[CALLS])(void) = {settle, page, check};
+    static void (*const calls[CALLS])(void) = {settle, page, check, day};
     uint8_t head[4];
-    size_t deepest[CALLS] = {0, 0, 0}, own = depth(nothing), sheets = 0;
+    size_t deepest[CALLS] = {0, 0, 0, 0}, own = depth(nothing), count = 0;
     while (fread(head, 1, 4, stdin) == 4) {
         length = head[0] | (size_t)head[1] << 8 | (size_t)head[2] << 16 | (size_t)head[3] << 24;
         if (length > sizeof sheet || fread(sheet, 1, length, stdin) != length) return 2;
+        for (size_t h = 0; h < NAOMHRAL_HOURS; h++) {
+            memcpy(sheets + h * length, sheet, length);
+            lengths[h] = (uint32_t)length;
+        }
         for (size_t k = 0; k < CALLS; k++) {
             size_t now = depth(calls[k]);
             if (now > deepest[k]) deepest[k] = now;
         }
         /* checking comes right behind the settlement whose lists it takes: a sheet that settles is accepted */
         if (summary[0] == 0 && answer[0] != 0) return 2;
-        sheets++;
+        count++;
     }
     if (ferror(stdin) || !feof(stdin)) return 2;
-    printf("%zu", sheets);
+    printf("%zu", count);
     for (size_t k = 0; k < CALLS; k++) printf(" %zu", deepest[k] - own);
     printf("\n");
     return 0;

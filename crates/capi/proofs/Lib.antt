@@ -3,3 +3,4 @@ pub mod Because
 pub mod ToldMend
 pub mod ToldBook
 pub mod Outcomes
+pub mod WholeDay

@@ -2,3 +2,4 @@ pub mod Told
 pub mod Why
 pub mod MendTold
 pub mod BookTold
+pub mod WholeDay

@@ -1,5 +1,6 @@
 // What the desk program does. It only reads, calls and writes, so no contract can say more of it than that it is safe and ends.
 mod files;
+mod hours;
 mod mending;
 mod why;
 
@@ -40,13 +41,15 @@ fn settle_input() {
 fn say_usage() {
     io::write_all(
         STDERR_FILENO,
-        b"desk: it is used so:\n    desk < SHEET              prints the page of an hour sheet\n    desk mend SHEET OUT       writes a mended copy to the new file OUT, and prints what was changed\n    desk why SHEET plant 3    says in a sentence why a plant got what it got; so does contract 7\n",
+        b"desk: it is used so:\n    desk < SHEET              prints the page of an hour sheet\n    desk day FILE ..          prints the pages of a day's 24 sheets, or none\n    desk mend SHEET OUT       writes a mended copy to the new file OUT, and prints what was changed\n    desk why SHEET plant 3    says in a sentence why a plant got what it got; so does contract 7\n",
     );
 }
 
 // What the first word asks for, with `count` words in all, the program's own name among them; else how the program is used.
 fn run_word(word: &[u8], count: usize) {
-    if words::is_same(word, b"mend") & (count == 4) {
+    if words::is_same(word, b"day") {
+        hours::run(count);
+    } else if words::is_same(word, b"mend") & (count == 4) {
         mending::run();
     } else if words::is_same(word, b"why") {
         why::run(count);

@@ -6,7 +6,7 @@ use Prim.Native.Nat.{ℕ}
 use Rattle.sums.specs.Sums.{sum, pick}
 use Rattle.sums.specs.Lists.{total, listTo}
 use Rattle.deals.specs.Deals.{Deals, stands, aheadOf, firmAt, restOf, cheaperOf, groupOf}
-use Rattle.reasons.specs.Reasons.{plantNumber, plantReasonBy, contractNumber, firstValue, secondValue, contractReasonBy}
+use Rattle.reasons.specs.Reasons.{plantReasonNumber, plantReasonBy, contractReasonNumber, firstValue, secondValue, contractReasonBy}
 use Rattle.reasons.specs.declared.ContractReason.{ContractReason}
 
 pub record PlantRow : Type 0 where
@@ -32,7 +32,7 @@ plantRows =
     ∷ plant 0 0 0 1
     ∷ []
 
-pub plants-hold : map (λ (r : PlantRow). plantNumber (plantReasonBy (r .scheduled) (r .must) (r .available))) plantRows
+pub plants-hold : map (λ (r : PlantRow). plantReasonNumber (plantReasonBy (r .scheduled) (r .must) (r .available))) plantRows
     ≡ map (λ (r : PlantRow). r .due) plantRows
 unfolding plantReasonBy
 plants-hold = refl
@@ -77,7 +77,7 @@ contractRows =
     ∷ []
 
 abbrev told : ContractReason → List ℕ
-told r = contractNumber r ∷ firstValue r ∷ secondValue r ∷ []
+told r = contractReasonNumber r ∷ firstValue r ∷ secondValue r ∷ []
 
 pub contracts-hold : map (λ (r : ContractRow). told (contractReasonBy (r .deals) (r .demand) (r .row))) contractRows
     ≡ map (λ (r : ContractRow). r .due) contractRows

@@ -12,7 +12,7 @@ use Rattle.sums.proofs.Tests.{clash, and-left, and-right, and-both}
 use Rattle.hour.specs.Sheet.{Sheet, plants}
 use Rattle.hour.specs.Sound.{Sound}
 use Rattle.hour.specs.Lines.{scheduled}
-use Rattle.reasons.specs.Reasons.{plantNumber, plantHolds, plantReasonBy, holdsOf, plantReason, PlantSays, StandsAhead}
+use Rattle.reasons.specs.Reasons.{plantReasonNumber, plantHolds, plantReasonBy, holdsOf, plantReason, PlantSays, StandsAhead}
 use Rattle.reasons.specs.declared.PlantReason.{PlantReason}
 use Rattle.reasons.proofs.Scheduled.{scheduled-least, scheduled-most, behind, in-front, one-between}
 
@@ -27,7 +27,7 @@ module _ (q m a : ℕ) where
   holds = plantHolds q m a
 
   -- those before the one named do not hold
-  pub reason-first : (r : PlantReason) → plantNumber r < plantNumber (plantReasonBy q m a) → holds r ≡ false
+  pub reason-first : (r : PlantReason) → plantReasonNumber r < plantReasonNumber (plantReasonBy q m a) → holds r ≡ false
   unfolding plantReasonBy
   reason-first r =
       go r (holds PlantReason.Nothing) (holds PlantReason.Full) (holds PlantReason.Must) (holds PlantReason.Last) refl refl
@@ -35,7 +35,7 @@ module _ (q m a : ℕ) where
     where
       go : (r : PlantReason) (t u v w : Bool) → holds PlantReason.Nothing ≡ t → holds PlantReason.Full ≡ u
           → holds PlantReason.Must ≡ v → holds PlantReason.Last ≡ w
-          → plantNumber r < plantNumber (chain t u v w)
+          → plantReasonNumber r < plantReasonNumber (chain t u v w)
           → holds r ≡ false
       go PlantReason.Nothing false u v w e f g x l = e
       go PlantReason.Nothing true u v w e f g x l = absurd (omega arith)
@@ -124,7 +124,7 @@ module _ (s : Sheet) (ok : Sound s) (i : ℕ) (l : i < plants s) where
   unfolding plantReason
   plant-holds = reason-holds _ _ _ (scheduled-least s ok i) (scheduled-most s ok i l)
 
-  pub plant-first : (r : PlantReason) → plantNumber r < plantNumber (plantReason s i) → holdsOf s i r ≡ false
+  pub plant-first : (r : PlantReason) → plantReasonNumber r < plantReasonNumber (plantReason s i) → holdsOf s i r ≡ false
   unfolding plantReason
   plant-first = reason-first _ _ _
 

@@ -18,7 +18,7 @@ use Rattle.hour.specs.Sound.{Sound}
 use Rattle.hour.specs.Balance.{commercial}
 use Rattle.hour.specs.Lines.{scheduled, amount}
 use borrow.Author.Tests.{ltb-true}
-use Rattle.reasons.specs.Reasons.{plantNumber, plantHolds, plantReason, plantCase, ContractHolds, contractReasonBy, contractReason, contractCase, buyerOf, ownDeals, ownPlace, sheetVerdict, whyVerdict, plantTold, plantWhy, contractTold, contractWhy, PlantSays, ContractSays, StandsAhead}
+use Rattle.reasons.specs.Reasons.{plantReasonNumber, plantHolds, plantReason, plantCase, ContractHolds, contractReasonBy, contractReason, contractCase, buyerOf, ownDeals, ownPlace, sheetVerdict, whyVerdict, plantTold, plantWhy, contractTold, contractWhy, PlantSays, ContractSays, StandsAhead}
 use Rattle.reasons.specs.declared.PlantReason.{PlantReason}
 use Rattle.reasons.specs.declared.PlantCase.{PlantCase}
 use Rattle.reasons.specs.declared.PlantWhy.{PlantWhy}
@@ -85,7 +85,7 @@ module _ (bytes : List ℕ) (i : ℕ) (k : PlantCase) (told : plantWhy bytes i �
   plant-reason-holds = rw (sym (known .1)) (plant-holds (hourOf bytes) ok i plant-is-there)
 
   -- it is the first that does,
-  pub plant-reason-first : (r : PlantReason) → plantNumber r < plantNumber (k .reason)
+  pub plant-reason-first : (r : PlantReason) → plantReasonNumber r < plantReasonNumber (k .reason)
       → plantHolds (k .scheduled) (k .must) (k .available) r ≡ false
   unfolding plantCase
   plant-reason-first = rw (sym (known .1)) (plant-first (hourOf bytes) ok i plant-is-there)

@@ -6,12 +6,12 @@ use native.Mathlib.Decide.{decLt}
 use mathlib.Core.Logic.{_⊎_, inl, inr}
 use mathlib.Core.Path.{_≡_, refl, ap}
 use lib.Dec.{eqb}
-use Rattle.sums.specs.Sums.{sum, pick}
+use Rattle.sums.specs.Sums.{sum, pick, keyed}
 use Rattle.sums.specs.Lists.{at}
 use Rattle.sums.proofs.Sums.{sum-front}
 use Rattle.sums.proofs.Picks.{pick-eq}
 use Rattle.merit.specs.Merit.{ahead, schedule, idealDispatch}
-use Rattle.merit.specs.Levels.{cheaper, level}
+use Rattle.crossing.specs.Crossing.{heldBelow}
 use Rattle.merit.proofs.Levels.{ahead-is, ahead-dearer}
 use Rattle.merit.proofs.MustRun.{ideal-within}
 use Rattle.hour.specs.Sheet.{Sheet, plants}
@@ -20,8 +20,8 @@ use Rattle.hour.specs.Lines.{scheduled}
 use Rattle.reasons.specs.Reasons.{StandsAhead}
 
 -- at one price x the rows before j hold those before i, and i's own
-front : (p a : ℕ → ℕ) (i j x : ℕ) → i < j → p i ≡ x → level p a x i + a i ≤ level p a x j
-unfolding level
+front : (p a : ℕ → ℕ) (i j x : ℕ) → i < j → p i ≡ x → keyed p a i x + a i ≤ keyed p a j x
+unfolding keyed
 front p a i j x l q = omega (arith, sum-front j i (λ k. pick (eqb (p k) x) (a k)) l, pick-eq (p i) x (a i) q)
 
 -- what is ahead of plant i, and its own, is ahead of whoever stands behind it
@@ -36,7 +36,7 @@ ahead-front p a n i j li lj (inr e) =
       arith,
       ahead-is p a n i (omega arith),
       ahead-is p a n j (omega arith),
-      ap (λ (x : ℕ). cheaper p a n x + level p a x j) (e .0),
+      ap (λ (x : ℕ). heldBelow p a n x + keyed p a j x) (e .0),
       front p a i j (p i) (e .1) refl,
     )
 

@@ -29,12 +29,12 @@ use Rattle.reasons.specs.declared.ContractWhy.{ContractWhy}
 
 -- ---- plants
 
-abbrev pub plantNumber : PlantReason → ℕ
-plantNumber PlantReason.Nothing = 1
-plantNumber PlantReason.Full = 2
-plantNumber PlantReason.Must = 3
-plantNumber PlantReason.Last = 4
-plantNumber PlantReason.Beyond = 5
+abbrev pub plantReasonNumber : PlantReason → ℕ
+plantReasonNumber PlantReason.Nothing = 1
+plantReasonNumber PlantReason.Full = 2
+plantReasonNumber PlantReason.Must = 3
+plantReasonNumber PlantReason.Last = 4
+plantReasonNumber PlantReason.Beyond = 5
 
 -- what each reason says of a plant that is scheduled for q kWh, with the must-run m and the availability a: nothing available;
 -- scheduled to the full; only its must-run, where that is above 0; partly scheduled, the last one needed; not reached
@@ -75,13 +75,13 @@ plantCase s i =
 
 -- ---- contracts
 
-abbrev pub contractNumber : ContractReason → ℕ
-contractNumber ContractReason.Fixed = 1
-contractNumber (ContractReason.Needed v) = 2
-contractNumber (ContractReason.Covered v) = 3
-contractNumber (ContractReason.Fits v) = 4
-contractNumber (ContractReason.Shares v) = 5
-contractNumber (ContractReason.Dearer v) = 6
+abbrev pub contractReasonNumber : ContractReason → ℕ
+contractReasonNumber ContractReason.Fixed = 1
+contractReasonNumber (ContractReason.Needed v) = 2
+contractReasonNumber (ContractReason.Covered v) = 3
+contractReasonNumber (ContractReason.Fits v) = 4
+contractReasonNumber (ContractReason.Shares v) = 5
+contractReasonNumber (ContractReason.Dearer v) = 6
 
 -- the two values of a reason: the quantities ahead and the buyer's demand, or what remains when the group is reached and what the
 -- group asks in all

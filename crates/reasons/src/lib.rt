@@ -6,7 +6,7 @@ ghost use lib.ListN.{length};
 ghost use Rattle.rows.specs.Limits.{mostPlants, mostContracts};
 ghost use Rattle.sheet.specs.Reading.{readOf};
 ghost use Rattle.sheet.specs.declared.Reading.{Reading};
-ghost use Rattle.reasons.specs.Reasons.{plantNumber, contractNumber, plantReasonBy, plantWhy, contractWhy};
+ghost use Rattle.reasons.specs.Reasons.{plantReasonNumber, contractReasonNumber, plantReasonBy, plantWhy, contractWhy};
 ghost use Rattle.reasons.specs.Parts.{HourSettled};
 use hour::Summary;
 use refusals::Refusal;
@@ -89,7 +89,7 @@ pub enum ContractWhy {
 
 // The number that a reason is told by.
 pub fn plant_number(reason: PlantReason) -> u32
-    ensures { λ r. ⌜ r ≡ plantNumber reason ⌝ }
+    ensures { λ r. ⌜ r ≡ plantReasonNumber reason ⌝ }
 {
     match reason {
         PlantReason::Nothing => 1,
@@ -101,7 +101,7 @@ pub fn plant_number(reason: PlantReason) -> u32
 }
 
 pub fn contract_number(reason: ContractReason) -> u32
-    ensures { λ r. ⌜ r ≡ contractNumber reason ⌝ }
+    ensures { λ r. ⌜ r ≡ contractReasonNumber reason ⌝ }
 {
     match reason {
         ContractReason::Fixed => 1,

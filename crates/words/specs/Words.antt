@@ -26,5 +26,5 @@ spelledTo w zero = Number.Is 0
 spelledTo w (suc k) = withDigit (spelledTo w k) (at w k)
 
 -- the number that a word of digits spells, below 1,000,000,000; a word with no byte spells none
-unfoldable pub numberOf : List ℕ → Number
-numberOf w = cond (eqb (length w) 0) Number.Not (spelledTo w (length w))
+unfoldable pub spelledIn : List ℕ → Number
+spelledIn w = cond (eqb (length w) 0) Number.Not (spelledTo w (length w))

@@ -1,6 +1,6 @@
 // The words behind a program's name, and the files that they name.
 ghost use mathlib.Core.Path.{_≡_};
-ghost use Rattle.words.specs.Words.{same, numberOf, withDigit};
+ghost use Rattle.words.specs.Words.{same, spelledIn, withDigit};
 
 // What a word spells.
 pub enum Number {
@@ -42,7 +42,7 @@ fn with_digit(value: u32, byte: u8) -> Number
 
 // The number that a word of digits spells.
 pub fn number_of(word: &[u8]) -> Number
-    ensures { λ r. ⌜ r ≡ numberOf (now (word .entry)) ⌝ }
+    ensures { λ r. ⌜ r ≡ spelledIn (now (word .entry)) ⌝ }
 {
     if word.len() == 0 {
         return Number::Not;

@@ -92,6 +92,66 @@ fn refused() -> Vec<Case> {
     ]
 }
 
+/// The lists of a day.
+struct DayLists {
+    figures: Vec<u32>,
+    money: Vec<i64>,
+    schedule: Vec<u32>,
+    amounts: Vec<u32>,
+}
+
+impl DayLists {
+    fn new() -> DayLists {
+        DayLists {
+            figures: vec![0; naomhral::HOURS * naomhral::FIGURES_MOST],
+            money: vec![0; naomhral::HOURS * naomhral::AGENTS_MOST],
+            schedule: vec![0; naomhral::HOURS * naomhral::PLANTS_MOST],
+            amounts: vec![0; naomhral::HOURS * naomhral::CONTRACTS_MOST],
+        }
+    }
+
+    fn at_one_go(&mut self, bytes: &[u8], lengths: &[u32; naomhral::HOURS]) {
+        let told = naomhral::day(bytes, lengths, &mut self.figures, &mut self.money, &mut self.schedule, &mut self.amounts);
+        assert!(black_box(told).is_ok());
+    }
+
+    /// The same by 24 calls, each with the part that the day lends.
+    fn by_hours(&mut self, bytes: &[u8], sheet: usize) {
+        let parts = self
+            .figures
+            .chunks_exact_mut(naomhral::FIGURES_MOST)
+            .zip(self.money.chunks_exact_mut(naomhral::AGENTS_MOST))
+            .zip(self.schedule.chunks_exact_mut(naomhral::PLANTS_MOST))
+            .zip(self.amounts.chunks_exact_mut(naomhral::CONTRACTS_MOST));
+        for (hour, (((figures, money), schedule), amounts)) in bytes.chunks_exact(sheet).zip(parts) {
+            assert!(black_box(naomhral::settle(hour, figures, money, schedule, amounts)).is_ok());
+        }
+    }
+}
+
+/// Nanoseconds a day of 24 largest sheets at one go, and by 24 calls, in turning order.
+fn days(rounds: usize) -> [f64; 2] {
+    let sheet = sheets::largest().bytes();
+    let bytes = sheet.repeat(naomhral::HOURS);
+    let lengths = [sheet.len() as u32; naomhral::HOURS];
+    let mut lists = DayLists::new();
+    let mut times = [Vec::new(), Vec::new()];
+    for round in 0..rounds {
+        for turn in 0..2 {
+            let k = (round + turn) % 2;
+            let start = Instant::now();
+            for _ in 0..4 {
+                match k {
+                    0 => lists.at_one_go(black_box(&bytes), &lengths),
+                    _ => lists.by_hours(black_box(&bytes), sheet.len()),
+                }
+            }
+            times[k].push(start.elapsed().as_nanos() as f64 / 4.0);
+        }
+    }
+    times.map(median)
+}
+
 fn median(mut times: Vec<f64>) -> f64 {
     times.sort_by(f64::total_cmp);
     times[times.len() / 2]
@@ -126,6 +186,10 @@ fn settling(rounds: usize, cases: &[Case]) {
         let [library, fast, plain] = times.map(median);
         println!("| {} | {library:.0} | {fast:.0} | {:.2} | {plain:.0} |", case.name, library / fast);
     }
+
+    let [day, hours] = days(rounds);
+    println!();
+    println!("A day of 24 largest sheets: {day:.0} at one go, {hours:.0} by 24 calls, ratio {:.2}.", day / hours);
 }
 
 /// Checking our own statement of each sheet beside settling it, one row a case.

@@ -4,7 +4,7 @@ use native.Mathlib.Omega.{arith}
 use borrow.Author.Needs.{needs}
 use borrow.Author.Tests.{eq-eqb, ne-eqb}
 use lib.ListN.{length}
-use Rattle.words.specs.Words.{withDigit, spelledTo, numberOf}
+use Rattle.words.specs.Words.{withDigit, spelledTo, spelledIn}
 use Rattle.words.specs.declared.Number.{Number}
 use Rattle.words.proofs.Laws.{spelled-more, not-for-good}
 use Rattle.words.proofs.number_of.Statement.{statement}
@@ -17,7 +17,7 @@ abbrev μ-loop : tie.MeasureT-loop
 μ-loop word value₀ k₀ value k = length word - k
 
 returns : tie.Need-returns Inv-loop μ-loop
-unfolding numberOf
+unfolding spelledIn
 returns c = rw (eq-eqb _ _ (c .if1 .taken)) refl
 
 loop-holds : tie.Need-loop-holds Inv-loop μ-loop
@@ -32,7 +32,7 @@ one-more c =
     rw (c .with-digit .ensures, spelled-more _ _, c .before .before .before .loop .inv .1) refl
 
 returns-2 : tie.Need-returns-2 Inv-loop μ-loop
-unfolding numberOf
+unfolding spelledIn
 returns-2 c =
     let p = c .before .before .before .before .before in
     let w = p .before .before .before .args .word .now in
@@ -43,7 +43,7 @@ loop-again : tie.Need-loop-again Inv-loop μ-loop
 loop-again c = (omega arith, one-more (c .before .before .before) ∙ c .before .longer .given .1)
 
 returns-3 : tie.Need-returns-3 Inv-loop μ-loop
-unfolding numberOf
+unfolding spelledIn
 returns-3 c = rw (ne-eqb _ _ (c .before .before .if1 .left)) (sym (c .before .loop .inv .1) ∙ ap (spelledTo _) (omega arith))
 
 pub number-of-spec : {M : Type 1} → statement M

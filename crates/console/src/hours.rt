@@ -1,0 +1,175 @@
+// `desk day FILE..`: 24 sheets, an hour a file, and their pages one behind another.
+ghost use Prim.Native.Nat.{_*_, _≤_, _<_};
+ghost use lib.ListN.{length};
+use crate::files;
+use day::HOURS;
+use input::Input;
+use libc::STDERR_FILENO;
+use libc::STDOUT_FILENO;
+use printing::Printed;
+
+// The first word that names a file, and how many words a day has in all, with the program's own name.
+const FIRST: usize = 2;
+
+const WORDS: usize = FIRST + HOURS;
+
+// Reads all files, each to a place of its own. Where one cannot be read, which is told by its name, there is no day.
+fn read_files(sheets: &mut [u8], sizes: &mut [usize; HOURS]) -> bool
+    requires { ⌜ 10288 * 24 ≤ length (now sheets) ⌝ }
+{
+    let mut h = 0;
+    while h < HOURS {
+        let a = files::ROOM * h;
+        let e = a + files::ROOM;
+        let got = files::read_named(FIRST + h, &mut sheets[a..e]);
+        let Input::Bytes(n) = got else {
+            return false;
+        };
+        sizes[h] = n;
+        h += 1;
+    }
+    true
+}
+
+// The n bytes from a on, or none where they are not there.
+fn stretch(bytes: &[u8], a: usize, n: usize) -> &[u8] {
+    if a <= bytes.len() {
+        if n <= bytes.len() - a {
+            let e = a + n;
+            return &bytes[a..e];
+        }
+    }
+    &bytes[..0]
+}
+
+fn say(text: &[u8]) -> bool {
+    io::write_all(STDOUT_FILENO, text)
+}
+
+// The line above a page: the hour and its file.
+fn print_head(h: usize) -> bool
+    requires { ⌜ h < 24 ⌝ }
+{
+    let mut path = io::buffer();
+    let n = os::arg(FIRST + h, &mut path);
+    let first = say(b"sheet ");
+    let second = io::print_decimal(STDOUT_FILENO, h as u64);
+    let third = say(b" ");
+    let fourth = say(&path[..n]);
+    let fifth = say(b"\n");
+    first & second & third & fourth & fifth
+}
+
+// What became of an hour: its page is that of a settled hour, or of a refused one, or it could not be written.
+const SETTLED: u32 = 0;
+
+const REFUSED: u32 = 1;
+
+const UNWRITTEN: u32 = 2;
+
+// A settled hour's page begins with `hour`, a refused one's with `refused`.
+fn kind_of(page: &[u8]) -> u32 {
+    if page.len() == 0 {
+        return UNWRITTEN;
+    }
+    if page[0] == b'h' { SETTLED } else { REFUSED }
+}
+
+// The page of hour h under its line.
+fn print_hour(h: usize, sheet: &[u8]) -> u32
+    requires { ⌜ h < 24 ⌝ }
+{
+    let mut text = [0u8; 10900];
+    let printed = page::page(sheet, &mut text);
+    let Printed::Done(n) = printed else {
+        return UNWRITTEN;
+    };
+    let page = stretch(&text, 0, n);
+    if !print_head(h) {
+        return UNWRITTEN;
+    }
+    if !say(page) {
+        return UNWRITTEN;
+    }
+    kind_of(page)
+}
+
+// Prints the pages and keeps what became of each hour. False where one could not be written.
+fn print_hours(sheets: &[u8], sizes: &[usize; HOURS], told: &mut [u32; HOURS]) -> bool {
+    let mut h = 0;
+    while h < HOURS {
+        let sheet = stretch(sheets, files::ROOM * h, sizes[h]);
+        let kind = print_hour(h, sheet);
+        if kind == UNWRITTEN {
+            return false;
+        }
+        told[h] = kind;
+        h += 1;
+    }
+    true
+}
+
+fn count_settled(told: &[u32; HOURS]) -> usize {
+    let mut n = 0;
+    let mut h = 0;
+    while h < HOURS {
+        n += one_if(told[h] == SETTLED);
+        h += 1;
+    }
+    n
+}
+
+fn one_if(test: bool) -> usize
+    ensures { λ r. ⌜ r ≤ 1 ⌝ }
+{
+    if test { 1 } else { 0 }
+}
+
+// A refused hour in the last line.
+fn print_refused(h: usize, kind: u32) {
+    if kind == REFUSED {
+        say(b" ");
+        io::print_decimal(STDOUT_FILENO, h as u64);
+    }
+}
+
+// How many hours were settled, and which were refused.
+fn print_last(told: &[u32; HOURS]) {
+    say(b"day ");
+    io::print_decimal(STDOUT_FILENO, count_settled(told) as u64);
+    say(b" settled, refused:");
+    let mut h = 0;
+    while h < HOURS {
+        print_refused(h, told[h]);
+        h += 1;
+    }
+    if !say(b"\n") {
+        os::fail(b"desk: the day cannot be written");
+    }
+}
+
+fn run_files() {
+    let mut sheets = [0u8; files::ROOM * HOURS];
+    let mut sizes = [0usize; HOURS];
+    if !read_files(&mut sheets, &mut sizes) {
+        return;
+    }
+    let mut told = [0u32; HOURS];
+    if print_hours(&sheets, &sizes, &mut told) {
+        print_last(&told);
+    } else {
+        os::fail(b"desk: the day cannot be written");
+    }
+}
+
+// With `count` words in all: a day has 24 files, and with fewer or more of them nothing is settled.
+pub fn run(count: usize) {
+    if count == WORDS {
+        run_files();
+    } else {
+        io::write_all(
+            STDERR_FILENO,
+            b"desk: a day has 24 files, one an hour in their order: desk day FILE FILE ..\n",
+        );
+    }
+}
