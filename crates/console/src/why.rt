@@ -14,24 +14,25 @@ use reasons::PlantWhy;
 use refusals::Refusal;
 use words::Number;
 
-fn say(text: &[u8]) {
-    io::write_all(STDOUT_FILENO, text);
+// Each of these answers whether all of it was written.
+fn say(text: &[u8]) -> bool {
+    io::write_all(STDOUT_FILENO, text)
 }
 
-fn say_number(n: u32) {
-    io::print_decimal(STDOUT_FILENO, n as u64);
+fn say_number(n: u32) -> bool {
+    io::print_decimal(STDOUT_FILENO, n as u64)
 }
 
 // As on the page of a sheet that is turned away.
-fn say_refused(r: Refusal) {
-    say(b"refused ");
-    say_number(r.number);
-    say(b" ");
-    say_number(r.place);
-    say(b"\n");
+fn say_refused(r: Refusal) -> bool {
+    say(b"refused ")
+        & say_number(r.number)
+        & say(b" ")
+        & say_number(r.place)
+        & say(b"\n")
 }
 
-fn say_plant_reason(reason: PlantReason) {
+fn say_plant_reason(reason: PlantReason) -> bool {
     match reason {
         PlantReason::Nothing => say(b" had nothing available: "),
         PlantReason::Full => say(b" was scheduled to the full: "),
@@ -41,22 +42,22 @@ fn say_plant_reason(reason: PlantReason) {
     }
 }
 
-fn say_plant(i: u32, k: PlantCase) {
+fn say_plant(i: u32, k: PlantCase) -> bool {
     let reason = k.reason;
-    say(b"Plant ");
-    say_number(i);
-    say_plant_reason(reason);
-    say_number(k.scheduled);
-    say(b" of ");
-    say_number(k.available);
-    say(b" kWh available, at its price of ");
-    say_number(k.offer);
-    say(b" centavos per kWh; the bolsa price is ");
-    say_number(k.price);
-    say(b".\n");
+    say(b"Plant ")
+        & say_number(i)
+        & say_plant_reason(reason)
+        & say_number(k.scheduled)
+        & say(b" of ")
+        & say_number(k.available)
+        & say(b" kWh available, at its price of ")
+        & say_number(k.offer)
+        & say(b" centavos per kWh; the bolsa price is ")
+        & say_number(k.price)
+        & say(b".\n")
 }
 
-fn say_contract_reason(reason: ContractReason) {
+fn say_contract_reason(reason: ContractReason) -> bool {
     match reason {
         ContractReason::Fixed => say(b" is fixed"),
         ContractReason::Needed(_) => say(b" is conditional and needed"),
@@ -67,26 +68,26 @@ fn say_contract_reason(reason: ContractReason) {
     }
 }
 
-fn say_ahead(v: Ahead, between: &[u8]) {
-    say(b", since the ");
-    say_number(v.ahead);
-    say(b" kWh ahead of it ");
-    say(between);
-    say(b" its buyer's demand of ");
-    say_number(v.demand);
-    say(b" kWh.\n");
+fn say_ahead(v: Ahead, between: &[u8]) -> bool {
+    say(b", since the ")
+        & say_number(v.ahead)
+        & say(b" kWh ahead of it ")
+        & say(between)
+        & say(b" its buyer's demand of ")
+        & say_number(v.demand)
+        & say(b" kWh.\n")
 }
 
-fn say_group(v: Group, before: &[u8]) {
-    say(before);
-    say_number(v.remainder);
-    say(b" kWh left when its group was reached, which asks for ");
-    say_number(v.total);
-    say(b" kWh in all.\n");
+fn say_group(v: Group, before: &[u8]) -> bool {
+    say(before)
+        & say_number(v.remainder)
+        & say(b" kWh left when its group was reached, which asks for ")
+        & say_number(v.total)
+        & say(b" kWh in all.\n")
 }
 
 // What the reason rests on.
-fn say_ground(reason: ContractReason) {
+fn say_ground(reason: ContractReason) -> bool {
     match reason {
         ContractReason::Fixed => say(b", whatever the demand.\n"),
         ContractReason::Needed(v) => say_ahead(v, b"are less than"),
@@ -97,40 +98,40 @@ fn say_ground(reason: ContractReason) {
     }
 }
 
-fn say_contract(j: u32, k: ContractCase) {
+fn say_contract(j: u32, k: ContractCase) -> bool {
     let reason = k.reason;
-    say(b"Contract ");
-    say_number(j);
-    say_contract_reason(reason);
-    say(b": it is assigned ");
-    say_number(k.amount);
-    say(b" of ");
-    say_number(k.quantity);
-    say(b" kWh at ");
-    say_number(k.price);
-    say(b" centavos per kWh");
-    say_ground(reason);
+    say(b"Contract ")
+        & say_number(j)
+        & say_contract_reason(reason)
+        & say(b": it is assigned ")
+        & say_number(k.amount)
+        & say(b" of ")
+        & say_number(k.quantity)
+        & say(b" kWh at ")
+        & say_number(k.price)
+        & say(b" centavos per kWh")
+        & say_ground(reason)
 }
 
-fn answer_plant(sheet: &[u8], i: u32) {
+fn answer_plant(sheet: &[u8], i: u32) -> bool {
     match reasons::why_plant(sheet, i) {
         PlantWhy::Because(k) => say_plant(i, k),
         PlantWhy::Refused(r) => say_refused(r),
     }
 }
 
-fn answer_contract(sheet: &[u8], j: u32) {
+fn answer_contract(sheet: &[u8], j: u32) -> bool {
     match reasons::why_contract(sheet, j) {
         ContractWhy::Because(k) => say_contract(j, k),
         ContractWhy::Refused(r) => say_refused(r),
     }
 }
 
-fn answer_of(sheet: &[u8], plant: bool, i: u32) {
+fn answer_of(sheet: &[u8], plant: bool, i: u32) -> bool {
     if plant {
-        answer_plant(sheet, i);
+        answer_plant(sheet, i)
     } else {
-        answer_contract(sheet, i);
+        answer_contract(sheet, i)
     }
 }
 
@@ -141,7 +142,9 @@ fn answer(plant: bool, i: u32) {
     let Input::Bytes(n) = got else {
         return;
     };
-    answer_of(&sheet[..n], plant, i);
+    if !answer_of(&sheet[..n], plant, i) {
+        os::fail(b"desk: the answer cannot be written");
+    }
 }
 
 fn say_usage() {

@@ -20,4 +20,5 @@ pub answer-spec : {M : Type 1} → statement M
 answer-spec =
     tie.close
     (tie.spec (λ c. search needs) (λ c κs. search needs) (λ c. search needs) (λ c. search needs) (λ c. search needs)
-    array-share-prefix-sheet slice-aggregate-answer-of (λ c κs. search needs) (λ c. search needs))
+    array-share-prefix-sheet slice-aggregate-answer-of (λ c κs. search needs) (λ c. search needs) (λ c κs. search needs)
+    (λ c. search needs) (λ c. search needs))
