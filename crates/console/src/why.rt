@@ -25,11 +25,7 @@ fn say_number(n: u32) -> bool {
 
 // As on the page of a sheet that is turned away.
 fn say_refused(r: Refusal) -> bool {
-    say(b"refused ")
-        & say_number(r.number)
-        & say(b" ")
-        & say_number(r.place)
-        & say(b"\n")
+    say(b"refused ") & say_number(r.number) & say(b" ") & say_number(r.place) & say(b"\n")
 }
 
 fn say_plant_reason(reason: PlantReason) -> bool {
