@@ -13,7 +13,8 @@ use base.Logic.{SProp, ent, sep, wand, guard, apply∗}
 use base.Fml.{fat}
 use prog.Wp.{Heap}
 use ghost.Atoms.{Atoms, sem}
-use types.Kit.{Goal, Given, Item, Seq, Step, step, ‵, raw, given, _⊛_, some, _$_, _∵_, !, qed, move, use1, use2, split, pick, learn, rewrite, fsplit, fjoin, feqL, feqI, frame, check, assume, done}
+use types.Kit.{Goal, Given, Item, Seq, Step, step, ‵, raw, given, _⊛_, some, _$_, _∵_, !, qed, move, use1}
+use types.Kit.{use2, split, pick, learn, rewrite, fsplit, fjoin, feqL, feqI, frame, check, assume, done}
 use types.Share.{parts, arr-parts}
 use denote.Array.{Array}
 use denote.ArrayMemory.{array-apart, array-whole}

@@ -20,7 +20,8 @@ use Rattle.refusals.proofs.Fine.{fine-left, fine-right, fine-test}
 use Rattle.book.specs.declared.Place.{Place}
 use Rattle.book.specs.declared.Totals.{Totals}
 use Rattle.book.specs.declared.Book.{Book}
-use Rattle.book.specs.Book.{hours, mostEnergy, mostHourPrice, blank, holding, placeAt, moneyBought, moved, withPlace, slotVerdict, fits, entryVerdict, unlessRefused, Does, Proper, Kept}
+use Rattle.book.specs.Book.{hours, mostEnergy, mostHourPrice, blank, holding, placeAt, moneyBought, moved}
+use Rattle.book.specs.Book.{withPlace, slotVerdict, fits, entryVerdict, unlessRefused, Does, Proper, Kept}
 use Rattle.book.specs.Told.{toldOf, slotOf, Turns, Room, Carried, Carries}
 
 -- ---- places

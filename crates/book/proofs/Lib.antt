@@ -1,3 +1,4 @@
 pub mod Laws
 pub mod Cuts
+pub mod Outcomes
 pub mod True

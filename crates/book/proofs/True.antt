@@ -16,7 +16,8 @@ use Rattle.refusals.specs.declared.Verdict.{Verdict}
 use Rattle.book.specs.declared.Place.{Place}
 use Rattle.book.specs.declared.Totals.{Totals}
 use Rattle.book.specs.declared.Book.{Book}
-use Rattle.book.specs.Book.{hours, mostEnergy, mostHourPrice, blank, holding, placeAt, moneyBought, fresh, emptyBook, moved, withPlace, slotVerdict, entryVerdict, unlessRefused, entered, removed, Does, Proper, Kept}
+use Rattle.book.specs.Book.{hours, mostEnergy, mostHourPrice, blank, holding, placeAt, moneyBought, fresh, emptyBook, moved}
+use Rattle.book.specs.Book.{withPlace, slotVerdict, entryVerdict, unlessRefused, entered, removed, Does, Proper, Kept}
 use Rattle.book.specs.Calls.{Call, called, after}
 use Rattle.book.proofs.Laws.{proper-blank, fine-hour, entry-hour, entry-proper, kept-carries}
 

@@ -7,16 +7,14 @@ use mathlib.Core.List.{List, [], _∷_}
 use lib.Dec.{leb, ltb}
 use lib.ListN.{length, getD, set, replicate}
 use Rattle.sums.specs.Sums.{sum}
+pub use Rattle.sums.specs.Hours.{hours}
 use Rattle.refusals.specs.declared.Verdict.{Verdict}
 use Rattle.refusals.specs.Refusals.{firstOf, refusedUnless, notThere, overBook}
 use Rattle.book.specs.declared.Place.{Place}
 use Rattle.book.specs.declared.Totals.{Totals}
 use Rattle.book.specs.declared.Book.{Book}
 
--- the places of a book, one an hour, and the limits of what one holds: kWh, and centavos per kWh
-abbrev pub hours : ℕ
-hours = 24
-
+-- a book has a place for each of a day's hours; the limits of what one holds: kWh, and centavos per kWh
 abbrev pub mostEnergy : ℕ
 mostEnergy = 4000000000
 

@@ -3,7 +3,8 @@ ghost use mathlib.Core.Path.{_≡_};
 ghost use Prim.Native.Nat.{_+_, _*_, _-_};
 ghost use Rattle.refusals.specs.Refusals.{orElse};
 ghost use Rattle.refusals.specs.declared.Verdict.{Verdict};
-ghost use Rattle.book.specs.Book.{blank, holding, moved, emptyBook, fits, slotVerdict, numbersVerdict, entryVerdict, entered, removed, Kept, Does};
+ghost use Rattle.book.specs.Book.{blank, holding, moved, emptyBook, fits, slotVerdict};
+ghost use Rattle.book.specs.Book.{numbersVerdict, entryVerdict, entered, removed, Kept, Does};
 ghost use Rattle.book.specs.Told.{toldOf, slotOf, Turns, Room, Carries};
 use refusals::Refusal;
 use refusals::Verdict;
@@ -234,7 +235,8 @@ pub fn enter(
     price: u32,
 ) -> Verdict
     requires { ⌜ Kept (now book) ⌝ }
-    ensures { λ r. ⌜ Does (entryVerdict hour demand losses bought price) (entered (now (book .entry)) hour demand losses bought price) r (now (book .exit)) ⌝ }
+    ensures { λ r. ⌜ Does (entryVerdict hour demand losses bought price)
+        (entered (now (book .entry)) hour demand losses bought price) r (now (book .exit)) ⌝ }
 {
     let at = slot(hour);
     let told = entering(
@@ -279,7 +281,8 @@ pub fn with_hour(
     price: u32,
 ) -> Outcome
     requires { ⌜ Kept book ⌝ }
-    ensures { λ r. ⌜ Does (entryVerdict hour demand losses bought price) (entered book hour demand losses bought price) (r .verdict) (r .book) ⌝ }
+    ensures { λ r. ⌜ Does (entryVerdict hour demand losses bought price) (entered book hour demand losses bought price)
+        (r .verdict) (r .book) ⌝ }
 {
     let mut lent = book;
     let verdict = enter(&mut lent, hour, demand, losses, bought, price);

@@ -14,14 +14,17 @@ use Rattle.sums.specs.Lists.{at}
 use Rattle.sums.proofs.Fill.{filled-unique}
 use Rattle.refusals.specs.declared.Verdict.{Verdict}
 use Rattle.refusals.proofs.Fine.{fine-test}
-use Rattle.book.specs.Book.{hours, mostEnergy, mostHourPrice, blank, holding, placeAt, moneyBought, fresh, emptyBook, moved, withPlace, slotVerdict, entryVerdict, unlessRefused, entered, removed, Kept}
+use Rattle.book.specs.Book.{hours, mostEnergy, mostHourPrice, blank, holding, placeAt, moneyBought, fresh, emptyBook}
+use Rattle.book.specs.Book.{moved, withPlace, slotVerdict, entryVerdict, unlessRefused, entered, removed, Kept}
 use Rattle.book.specs.Calls.{Call, called, after}
 use Rattle.book.specs.declared.Book.{Book}
 use Rattle.book.specs.declared.Place.{Place}
 use Rattle.book.specs.declared.Totals.{Totals}
 use Rattle.book.proofs.Laws.{fine-hour, entry-hour, kept-carries}
 use Rattle.book.proofs.True.{empty-kept, called-kept, totals-true}
-use Rattle.book_cells.specs.Cells.{cellsPerPlace, totalsStart, allCells, flagOf, placeCells, totalsCells, placeIn, totalsIn, shaped, carried, dayEnergy, dayMoney, lookedGood, roomFor, cellsVerdict, put, withPlaceCells, unlessRefusedCells, Emptied, CellsDo}
+use Rattle.book_cells.specs.Cells.{cellsPerPlace, totalsStart, allCells, flagOf, placeCells, totalsCells}
+use Rattle.book_cells.specs.Cells.{placeIn, totalsIn, shaped, carried, dayEnergy, dayMoney, lookedGood, roomFor}
+use Rattle.book_cells.specs.Cells.{cellsVerdict, put, withPlaceCells, unlessRefusedCells, Emptied, CellsDo}
 use Rattle.book_cells.proofs.Put.{put-long, put-in, put-low, put-high}
 use Rattle.book_cells.proofs.Looked.{own-verdict}
 

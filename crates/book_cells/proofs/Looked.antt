@@ -14,7 +14,8 @@ use Rattle.refusals.specs.Refusals.{orElse}
 use Rattle.refusals.specs.declared.Verdict.{Verdict}
 use Rattle.refusals.proofs.Fine.{else-fine, fine-parts, fine-test}
 use Rattle.book.specs.Book.{mostEnergy, mostHourPrice, fits}
-use Rattle.book_cells.specs.Cells.{cellsPerPlace, totalsStart, allCells, shaped, carried, dayEnergy, dayMoney, dayGood, lookedGood, roomFor, lookedVerdict, cellsVerdict}
+use Rattle.book_cells.specs.Cells.{cellsPerPlace, totalsStart, allCells, shaped, carried, dayEnergy}
+use Rattle.book_cells.specs.Cells.{dayMoney, dayGood, lookedGood, roomFor, lookedVerdict, cellsVerdict}
 
 -- ---- the test as facts
 pub record Carried (total part day : ℕ) : Type 0 where
@@ -118,10 +119,6 @@ fine-allowed cs h v e =
       own = all .1 .0;
       looked = fine-test _ _ _ (all .1 .1 .0);
     }
-
-pub allowed-fine : (cs : List ℕ) (h : ℕ) (v : Verdict) → Allowed cs h v → cellsVerdict cs h v ≡ Verdict.Fine
-unfolding cellsVerdict
-allowed-fine cs h v a = rw (le-leb allCells (length cs) (a .room), a .own, a .looked)
 
 -- cells and the hour are fine: the answer is the book's own
 pub own-verdict : (cs : List ℕ) (h : ℕ) (v : Verdict)

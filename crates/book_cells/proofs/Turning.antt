@@ -12,8 +12,9 @@ use Rattle.book.specs.Told.{Turns}
 use Rattle.book.specs.declared.Place.{Place}
 use Rattle.book.specs.declared.Totals.{Totals}
 use Rattle.book.proofs.Laws.{proper-blank, money-most, fine-hour, entry-hour, entry-proper}
-use Rattle.book_cells.specs.Cells.{cellsPerPlace, totalsStart, flagOf, dayEnergy, dayMoney, placeIn, totalsIn, cellsVerdict, put, withPlaceCells, CellsDo}
-use Rattle.book_cells.specs.Steps.{Turnable}
+use Rattle.book_cells.specs.Cells.{cellsPerPlace, totalsStart, flagOf, dayEnergy, dayMoney}
+use Rattle.book_cells.specs.Cells.{placeIn, totalsIn, cellsVerdict, put, withPlaceCells, CellsDo}
+use Rattle.book_cells.specs.Steps.{Turnable, OwnGood}
 use Rattle.book_cells.proofs.Looked.{Carried, Looked, looked-says, money-fits, fine-allowed}
 
 turns : (total part day old new : ℕ) → Carried total part day → old ≡ part → day + new < 2 ^ 64 → Turns total old new
@@ -81,22 +82,20 @@ pub turned-cells : (l m n : List ℕ) (h : ℕ) (p : Place) (t : Totals) (s f d 
 turned-cells l m n h p t s f d o b q es et ef ed eo eb eq em en = rw (en, em, et, ef, ed, eo, eb, eq, es)
 
 -- ---- a call that nothing refuses may turn its place
-pub enter-turnable : (l : List ℕ) (h d o b q : ℕ)
-    → cellsVerdict l h (entryVerdict h d o b q) ≡ Verdict.Fine
-    → Turnable l h (holding d o b q)
-enter-turnable l h d o b q e =
-    let a = fine-allowed l h (entryVerdict h d o b q) e in
-    record {
-      room = a .room;
-      hour = entry-hour h d o b q (a .own);
-      looked = a .looked;
-      proper = entry-proper h d o b q (a .own);
-    }
+pub fine-turnable : (l : List ℕ) (h : ℕ) (own : Verdict) (p : Place)
+    → OwnGood own h p
+    → cellsVerdict l h own ≡ Verdict.Fine
+    → Turnable l h p
+fine-turnable l h own p good e =
+    let a = fine-allowed l h own e in
+    let g = good (a .own) in
+    record { room = a .room; hour = g .0; looked = a .looked; proper = g .1 }
 
-pub remove-turnable : (l : List ℕ) (h : ℕ) → cellsVerdict l h (slotVerdict h) ≡ Verdict.Fine → Turnable l h blank
-remove-turnable l h e =
-    let a = fine-allowed l h (slotVerdict h) e in
-    record { room = a .room; hour = fine-hour h (a .own); looked = a .looked; proper = proper-blank }
+pub enter-good : (h d o b q : ℕ) → OwnGood (entryVerdict h d o b q) h (holding d o b q)
+enter-good h d o b q e = (entry-hour h d o b q e, entry-proper h d o b q e)
+
+pub remove-good : (h : ℕ) → OwnGood (slotVerdict h) h blank
+remove-good h e = (fine-hour h e, proper-blank)
 
 -- ---- what a call promises, by its verdict
 pub does-fine : (v : Verdict) (new before after : List ℕ)

@@ -6,9 +6,10 @@ ghost use Prim.Native.Nat.{_+_, _-_, _*_, _≤_, _^_, _<_};
 ghost use lib.ListN.{length};
 ghost use Rattle.sums.specs.Lists.{at};
 ghost use Rattle.book.specs.Book.{blank, holding, fits, moved, slotVerdict, entryVerdict};
-ghost use Rattle.book_cells.specs.Cells.{cellsPerPlace, flagOf, shaped, carried, dayGood, lookedGood, roomFor, lookedVerdict, cellsVerdict, placeIn, totalsIn, put, withPlaceCells, Emptied, CellsDo};
+ghost use Rattle.book_cells.specs.Cells.{cellsPerPlace, flagOf, shaped, carried, dayGood, lookedGood, roomFor, lookedVerdict};
+ghost use Rattle.book_cells.specs.Cells.{cellsVerdict, placeIn, totalsIn, put, withPlaceCells, Emptied, CellsDo};
 ghost use Rattle.book.specs.Told.{Turns};
-ghost use Rattle.book_cells.specs.Steps.{Turnable};
+ghost use Rattle.book_cells.specs.Steps.{Turnable, OwnGood};
 use book::Book;
 use book::Place;
 use book::Totals;
@@ -186,6 +187,22 @@ fn turn(cells: &mut [u64], hour: u32, new: Place)
     put_at(cells, TOTALS, &totals);
 }
 
+// The same, unless the call's own verdict or the cells refuse it.
+fn turn_unless_refused(cells: &mut [u64], hour: u32, own: Verdict, new: Place) -> Verdict
+    requires { ⌜ OwnGood own hour new ⌝ }
+    ensures { λ r. ⌜ CellsDo (cellsVerdict (now (cells .entry)) hour own) (withPlaceCells (now (cells .entry)) hour new)
+        (now (cells .entry)) r (now (cells .exit)) ⌝ }
+{
+    let verdict = cells_verdict(cells, hour, own);
+    match verdict {
+        Verdict::Fine => {
+            turn(cells, hour, new);
+            Verdict::Fine
+        }
+        Verdict::Refused(why) => Verdict::Refused(why),
+    }
+}
+
 // An empty book: zeros.
 pub fn empty(cells: &mut [u64]) -> Verdict
     ensures { λ r. ⌜ Emptied (now (cells .entry)) r (now (cells .exit)) ⌝ }
@@ -210,44 +227,33 @@ pub fn enter(
     bought: u32,
     price: u32,
 ) -> Verdict
-    ensures { λ r. ⌜ CellsDo (cellsVerdict (now (cells .entry)) hour (entryVerdict hour demand losses bought price)) (withPlaceCells (now (cells .entry)) hour (holding demand losses bought price)) (now (cells .entry)) r (now (cells .exit)) ⌝ }
+    ensures { λ r. ⌜ CellsDo (cellsVerdict (now (cells .entry)) hour (entryVerdict hour demand losses bought price))
+        (withPlaceCells (now (cells .entry)) hour (holding demand losses bought price)) (now (cells .entry)) r
+        (now (cells .exit)) ⌝ }
 {
     let own = book::entry_verdict(hour, demand, losses, bought, price);
-    let verdict = cells_verdict(cells, hour, own);
-    match verdict {
-        Verdict::Fine => {
-            let new = Place {
-                held: true,
-                demand,
-                losses,
-                bought,
-                price,
-            };
-            turn(cells, hour, new);
-            Verdict::Fine
-        }
-        Verdict::Refused(why) => Verdict::Refused(why),
-    }
+    let new = Place {
+        held: true,
+        demand,
+        losses,
+        bought,
+        price,
+    };
+    turn_unless_refused(cells, hour, own, new)
 }
 
 // Removes an hour.
 pub fn remove(cells: &mut [u64], hour: u32) -> Verdict
-    ensures { λ r. ⌜ CellsDo (cellsVerdict (now (cells .entry)) hour (slotVerdict hour)) (withPlaceCells (now (cells .entry)) hour blank) (now (cells .entry)) r (now (cells .exit)) ⌝ }
+    ensures { λ r. ⌜ CellsDo (cellsVerdict (now (cells .entry)) hour (slotVerdict hour))
+        (withPlaceCells (now (cells .entry)) hour blank) (now (cells .entry)) r (now (cells .exit)) ⌝ }
 {
     let own = book::hour_verdict(hour);
-    let verdict = cells_verdict(cells, hour, own);
-    match verdict {
-        Verdict::Fine => {
-            let none = Place {
-                held: false,
-                demand: 0,
-                losses: 0,
-                bought: 0,
-                price: 0,
-            };
-            turn(cells, hour, none);
-            Verdict::Fine
-        }
-        Verdict::Refused(why) => Verdict::Refused(why),
-    }
+    let none = Place {
+        held: false,
+        demand: 0,
+        losses: 0,
+        bought: 0,
+        price: 0,
+    };
+    turn_unless_refused(cells, hour, own, none)
 }

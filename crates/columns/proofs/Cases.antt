@@ -7,7 +7,8 @@ use Rattle.sums.specs.Lists.{listTo}
 use Rattle.refusals.specs.Refusals.{firstBad}
 use Rattle.rows.specs.Bytes.{u32At, wordsOf, wordsAt, word, byteOf, bytesOf}
 use Rattle.rows.specs.declared.Words.{Words}
-use Rattle.sheet.specs.Reading.{countsOf, distancesGood, layoutGood, kindAt, agentVerdict, boundaryVerdict, plantVerdict, contractVerdict, readVerdict, readOf}
+use Rattle.sheet.specs.Reading.{countsOf, distancesGood, layoutGood, kindAt, agentVerdict}
+use Rattle.sheet.specs.Reading.{boundaryVerdict, plantVerdict, contractVerdict, readVerdict, readOf}
 use Rattle.sheet.specs.declared.Counts.{Counts}
 use Rattle.sheet.specs.declared.Reading.{Reading}
 use Rattle.hour.proofs.Cases.{wholeHour}
@@ -41,5 +42,6 @@ hourCounts = record { agents = 4; boundaries = 4; plants = 3; contracts = 4 }
 
 pub hour-read : (length hourBytes ≡ 272) × (readOf hourBytes ≡ Reading.Accepted hourCounts)
     × (columnsOf hourBytes hourCounts ≡ wholeHour)
-unfolding hourBytes bytesOf byteOf word listTo u32At wordsAt countsOf distancesGood layoutGood kindAt agentVerdict boundaryVerdict plantVerdict contractVerdict readVerdict readOf firstBad columnsOf
+unfolding hourBytes bytesOf byteOf word listTo u32At wordsAt countsOf distancesGood layoutGood kindAt agentVerdict boundaryVerdict
+    plantVerdict contractVerdict readVerdict readOf firstBad columnsOf
 hour-read = (refl, refl, refl)

@@ -1,3 +1,4 @@
 pub mod Columns
 pub mod Numbers
+pub mod Refusing
 pub mod Cases

@@ -9,11 +9,13 @@ use lib.Dec.{ltb, leb, eqb}
 use lib.ListN.{length}
 use Rattle.sums.specs.Sums.{sum}
 use Rattle.sums.specs.Lists.{at}
-use Rattle.refusals.specs.Refusals.{badLength, badLayout, badAgent, badBoundary, badPlant, badContract, badExports, badGain, unshared, uncovered, overrun, noRoom, refused, refusedUnless, orElse, firstOf, firstBad, numberOf}
+use Rattle.refusals.specs.Refusals.{badLength, badLayout, badAgent, badBoundary, badPlant, badContract, badExports, badGain, unshared}
+use Rattle.refusals.specs.Refusals.{uncovered, overrun, noRoom, refused, refusedUnless, orElse, firstOf, firstBad, numberOf}
 use Rattle.refusals.specs.declared.Verdict.{Verdict}
 use Rattle.rows.specs.Bytes.{wordsAt}
 use Rattle.rows.specs.Rows.{agentBlank, boundaryBlank, agentGood, boundaryGood, plantGood, contractGood}
-use Rattle.sheet.specs.Reading.{boundaryStart, plantStart, lengthGood, countsOf, layoutGood, kindAt, agentVerdict, boundaryVerdict, plantVerdict, contractVerdict, checks, readVerdict}
+use Rattle.sheet.specs.Reading.{boundaryStart, plantStart, lengthGood, countsOf, layoutGood, kindAt, agentVerdict}
+use Rattle.sheet.specs.Reading.{boundaryVerdict, plantVerdict, contractVerdict, checks, readVerdict}
 use Rattle.sheet.specs.Asking.{agentAt, boundaryAt, plantAt, contractAt}
 use Rattle.sheet.specs.declared.Counts.{Counts}
 use Rattle.hour.specs.Sheet.{Sheet, agents, plants, contracts}

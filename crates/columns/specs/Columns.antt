@@ -1,11 +1,14 @@
 -- Document 01, 'The hour sheet': the bytes of an accepted sheet, by the columns of each section. Assumes nothing.
 use Prim.Native.Nat.{ℕ}
-use mathlib.Core.List.{List}
+use mathlib.Core.List.{List, [], _∷_}
 use Rattle.sums.specs.Lists.{listTo}
+use Rattle.refusals.specs.Refusals.{firstOf}
+use Rattle.refusals.specs.declared.Verdict.{Verdict}
 use Rattle.sheet.specs.Asking.{agentAt, boundaryAt, plantAt, contractAt}
-use Rattle.sheet.specs.Reading.{countsOf}
+use Rattle.sheet.specs.Reading.{countsOf, readVerdict}
 use Rattle.sheet.specs.declared.Counts.{Counts}
 use Rattle.hour.specs.Sheet.{Sheet}
+use Rattle.hour.specs.Answer.{balanceVerdict, coverVerdict}
 
 unfoldable pub columnsOf : List ℕ → Counts → Sheet
 columnsOf s c =
@@ -32,3 +35,8 @@ columnsOf s c =
 -- the sheet that the bytes hold
 unfoldable pub hourOf : List ℕ → Sheet
 hourOf bytes = columnsOf bytes (countsOf bytes)
+
+-- 'When the sheet is turned away', of the bytes alone: 1 to 6 are reading's, 7 to 9 the balance's, then 10 and 13; not 11, since no
+-- list is lent
+unfoldable pub sheetVerdict : List ℕ → Verdict
+sheetVerdict bytes = firstOf (readVerdict bytes ∷ balanceVerdict (hourOf bytes) ∷ coverVerdict (hourOf bytes) ∷ [])

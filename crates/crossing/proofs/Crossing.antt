@@ -5,14 +5,14 @@ use native.Mathlib.Nat.{le-refl, div-add-mod, mod-lt, mul-le-mul-left}
 use native.Mathlib.Decide.{decLt, ℕ-discrete}
 use mathlib.Core.Logic.{_↔_}
 use mathlib.Core.Bool.{Bool, true, false, _&&_, _||_}
-use mathlib.Core.Path.{_≡_, refl, ap, _∙_, sym}
-use lib.Dec.{ltb, leb, eqb}
-use borrow.Author.Tests.{ltb-true, eqb-true, le-leb, lt-leb, lt-ltb, le-ltb}
+use mathlib.Core.Path.{_≡_, refl, ap, _∙_}
+use lib.Dec.{ltb, eqb}
+use borrow.Author.Tests.{ltb-true, eqb-true, lt-ltb, le-ltb}
 use Rattle.sums.specs.Sums.{sum, pick, keyed}
 use Rattle.sums.proofs.Sums.{sum-none, sum-step, sum-le, sum-lt, sum-eq, sum-add, sum-zero, sum-front, sum-term}
-use Rattle.sums.proofs.Picks.{pick-le, pick-true, pick-false, pick-lt, pick-ge, pick-eq, pick-ne, pick-suc, sum-cut}
+use Rattle.sums.proofs.Picks.{pick-le, pick-lt, pick-ge, pick-eq, pick-ne, pick-suc, sum-cut}
 use Rattle.sums.proofs.Keyed.{keyed-none, keyed-step}
-use Rattle.crossing.specs.Crossing.{heldBelow, upTo, comesBefore, standing, Above, Crossing, Bracket, taken, classOf}
+use Rattle.crossing.specs.Crossing.{heldBelow, comesBefore, standing, Above, Crossing, Bracket, taken, classOf}
 
 -- of two tests that exclude each other
 pick-or : (s t u : Bool) (v : ℕ) → (s ≡ true → t ≡ true → ⊥) → pick (s || (t && u)) v ≡ pick s v + pick u (pick t v)
@@ -29,13 +29,6 @@ pick-comesBefore : (y x j i v : ℕ) → pick (comesBefore y x j i) v ≡ pick (
 unfolding comesBefore
 pick-comesBefore y x j i v =
     pick-or (ltb y x) (eqb y x) (ltb j i) v (λ l e. omega (arith, ltb-true y x l, eqb-true y x e))
-
-pick-leb : (q x v : ℕ) → pick (leb q x) v ≡ pick (ltb q (suc x)) v
-pick-leb q x v = go (decLt x q)
-  where
-    go : Dec (x < q) → pick (leb q x) v ≡ pick (ltb q (suc x)) v
-    go (yes l) = pick-false (leb q x) v (lt-leb q x l) ∙ sym (pick-ge q (suc x) v (omega arith))
-    go (no l) = pick-true (leb q x) v (le-leb q x (omega arith)) ∙ sym (pick-lt q (suc x) v (omega arith))
 
 -- ---- what a row gives at, below and above the crossing
 pub taken-below : (y x w left : ℕ) → y < x → taken y x w left ≡ w
@@ -62,12 +55,6 @@ module _ (key v : ℕ → ℕ) (n : ℕ) where
       sum-eq n (λ j. pick (ltb (key j) (suc x)) (v j)) (λ j. pick (ltb (key j) x) (v j) + pick (eqb (key j) x) (v j))
       (λ i l. pick-suc (key i) x (v i))
       ∙ sum-add n (λ j. pick (ltb (key j) x) (v j)) (λ j. pick (eqb (key j) x) (v j))
-
-  pub up-to-is : (x : ℕ) → upTo key v n x ≡ heldBelow key v n (suc x)
-  unfolding heldBelow upTo
-  up-to-is x =
-      sum-eq n (λ j. pick (leb (key j) x) (v j)) (λ j. pick (ltb (key j) (suc x)) (v j))
-      (λ i l. pick-leb (key i) x (v i))
 
   -- with no key from x up to y, what is heldBelow of y is heldBelow of x
   pub below-gap : (x y : ℕ) → ((i : ℕ) → i < n → key i < y → key i < x) → heldBelow key v n y ≤ heldBelow key v n x

@@ -3,15 +3,12 @@
 use Prim.Native.Nat.{ℕ, _+_, _-_, _/_, _≤_, _<_, min}
 use mathlib.Core.Bool.{Bool, cond, _&&_, _||_}
 use mathlib.Core.Path.{_≡_}
-use lib.Dec.{ltb, leb, eqb}
+use lib.Dec.{ltb, eqb}
 use Rattle.sums.specs.Sums.{sum, pick, keyed}
 
--- what the keys below x hold, and what the keys up to x hold
+-- what the keys below x hold
 unfoldable pub heldBelow : (key v : ℕ → ℕ) → (n x : ℕ) → ℕ
 heldBelow key v n x = sum n (λ j. pick (ltb (key j) x) (v j))
-
-unfoldable pub upTo : (key v : ℕ → ℕ) → (n x : ℕ) → ℕ
-upTo key v n x = sum n (λ j. pick (leb (key j) x) (v j))
 
 -- a row of key y and number j stands before one of key x and number i
 unfoldable pub comesBefore : (y x j i : ℕ) → Bool

@@ -141,14 +141,16 @@ fn close_in(keys: &[u32], values: &[u32], n: usize, demand: u32) -> u32
 
 // A key at which the demand crosses them.
 pub fn reach(keys: &[u32], values: &[u32], demand: u32) -> u32
-    ensures { λ r. ⌜ Crossing (at (now (keys .entry))) (at (now (values .entry))) (min (length (now (keys .entry))) (length (now (values .entry)))) demand r ⌝ }
+    ensures { λ r. ⌜ Crossing (at (now (keys .entry))) (at (now (values .entry)))
+        (min (length (now (keys .entry))) (length (now (values .entry)))) demand r ⌝ }
 {
     close_in(keys, values, row_count(keys, values), demand)
 }
 
 // What those below the key x leave of the demand.
 pub fn left_below(keys: &[u32], values: &[u32], demand: u32, x: u32) -> u32
-    ensures { λ r. ⌜ r ≡ demand - heldBelow (at (now (keys .entry))) (at (now (values .entry))) (min (length (now (keys .entry))) (length (now (values .entry)))) x ⌝ }
+    ensures { λ r. ⌜ r ≡ demand - heldBelow (at (now (keys .entry))) (at (now (values .entry)))
+        (min (length (now (keys .entry))) (length (now (values .entry)))) x ⌝ }
 {
     left_of(keys, values, row_count(keys, values), demand, x)
 }

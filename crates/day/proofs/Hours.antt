@@ -21,7 +21,8 @@ use Rattle.columns.specs.Columns.{hourOf}
 use Rattle.hour.specs.Answer.{Lent, summaryOf}
 use Rattle.hour.specs.declared.Summary.{Summary}
 use Rattle.settle.specs.Settled.{lent, Settled}
-use Rattle.day.specs.Day.{hours, startOf, hourSheet, figuresPart, moneyPart, schedulePart, amountsPart, part, partOf, roomForDay, wholeVerdict, dayVerdict, KeptFrom, noSummary, DayOutcome}
+use Rattle.day.specs.Day.{hours, startOf, hourSheet, figuresPart, moneyPart, schedulePart, amountsPart, part}
+use Rattle.day.specs.Day.{partOf, roomForDay, wholeVerdict, dayVerdict, KeptFrom, noSummary, DayOutcome}
 use Rattle.day.specs.Steps.{Fits, HasPart, OnlyPart, OneHour, HoursDone}
 use Rattle.day.proofs.Parts.{part-long, part-back, only-back, part-other, part-kept, kept-none, kept-next}
 

@@ -17,7 +17,8 @@ use Rattle.hour.specs.Answer.{Lent, summaryOf}
 use Rattle.hour.specs.declared.Summary.{Summary}
 use Rattle.settle.specs.Settled.{lent, Settled}
 use Rattle.settle.proofs.Judged.{settled-unique}
-use Rattle.day.specs.Day.{hours, hourSheet, figuresPart, moneyPart, schedulePart, amountsPart, part, partOf, dayVerdict, HourIs, KeptFrom, noSummary, DayOutcome, DaySettled}
+use Rattle.day.specs.Day.{hours, hourSheet, figuresPart, moneyPart, schedulePart, amountsPart, part}
+use Rattle.day.specs.Day.{partOf, dayVerdict, HourIs, KeptFrom, noSummary, DayOutcome, DaySettled}
 use Rattle.day.proofs.Parts.{part-at, kept-all}
 
 -- ---- a list is told by its parts and by what lies behind them

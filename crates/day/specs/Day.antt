@@ -9,6 +9,7 @@ use lib.IntN.{ℤ, pos}
 use lib.ListN.{length, getD, take, drop}
 use Rattle.sums.specs.Sums.{sum}
 use Rattle.sums.specs.Lists.{at}
+pub use Rattle.sums.specs.Hours.{hours}
 use Rattle.refusals.specs.Refusals.{badLength, noRoom, refusedUnless, firstOf, cells}
 use Rattle.refusals.specs.declared.Verdict.{Verdict}
 use Rattle.rows.specs.Limits.{mostAgents, mostPlants, mostContracts}
@@ -17,9 +18,6 @@ use Rattle.hour.specs.Lines.{cellsPerAgent}
 use Rattle.hour.specs.Answer.{Lent, summaryOf}
 use Rattle.hour.specs.declared.Summary.{Summary}
 use Rattle.settle.specs.Settled.{lent, Settled}
-
-abbrev pub hours : ℕ
-hours = 24
 
 -- 'one behind another, with a length for each': where hour h's sheet begins, and the sheet
 abbrev pub startOf : (lengths : List ℕ) → ℕ → ℕ

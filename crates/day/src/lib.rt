@@ -101,7 +101,9 @@ fn settle_hour(
     amounts: &mut [u32],
 ) -> Summary
     requires { ⌜ HasPart h (lent (now figures) (now money) (now schedule) (now amounts)) ⌝ }
-    ensures { λ r. ⌜ OneHour h (now (sheet .entry)) (lent (now (figures .entry)) (now (money .entry)) (now (schedule .entry)) (now (amounts .entry))) (lent (now (figures .exit)) (now (money .exit)) (now (schedule .exit)) (now (amounts .exit))) r ⌝ }
+    ensures { λ r. ⌜ OneHour h (now (sheet .entry))
+        (lent (now (figures .entry)) (now (money .entry)) (now (schedule .entry)) (now (amounts .entry)))
+        (lent (now (figures .exit)) (now (money .exit)) (now (schedule .exit)) (now (amounts .exit))) r ⌝ }
 {
     let f = FIGURES * h;
     let m = MONEY * h;
@@ -143,7 +145,9 @@ fn settle_hours(
     amounts: &mut [u32],
 ) -> [Summary; HOURS]
     requires { ⌜ Fits (now sheets) (now lengths) (lent (now figures) (now money) (now schedule) (now amounts)) ⌝ }
-    ensures { λ r. ⌜ HoursDone hours (now (sheets .entry)) (now (lengths .entry)) (lent (now (figures .entry)) (now (money .entry)) (now (schedule .entry)) (now (amounts .entry))) (lent (now (figures .exit)) (now (money .exit)) (now (schedule .exit)) (now (amounts .exit))) r ⌝ }
+    ensures { λ r. ⌜ HoursDone hours (now (sheets .entry)) (now (lengths .entry))
+        (lent (now (figures .entry)) (now (money .entry)) (now (schedule .entry)) (now (amounts .entry)))
+        (lent (now (figures .exit)) (now (money .exit)) (now (schedule .exit)) (now (amounts .exit))) r ⌝ }
 {
     let mut all = alike(0, 0);
     let mut start = 0;
@@ -167,7 +171,9 @@ pub fn settle_day(
     schedule: &mut [u32],
     amounts: &mut [u32],
 ) -> [Summary; HOURS]
-    ensures { λ r. ⌜ DaySettled (now (sheets .entry)) (now (lengths .entry)) (lent (now (figures .entry)) (now (money .entry)) (now (schedule .entry)) (now (amounts .entry))) (lent (now (figures .exit)) (now (money .exit)) (now (schedule .exit)) (now (amounts .exit))) r ⌝ }
+    ensures { λ r. ⌜ DaySettled (now (sheets .entry)) (now (lengths .entry))
+        (lent (now (figures .entry)) (now (money .entry)) (now (schedule .entry)) (now (amounts .entry)))
+        (lent (now (figures .exit)) (now (money .exit)) (now (schedule .exit)) (now (amounts .exit))) r ⌝ }
 {
     let verdict = judge(
         sheets.len(),

@@ -8,6 +8,7 @@ use day::MONEY;
 use day::SCHEDULE;
 use hour::Summary;
 use input::Input;
+use input::cases::Next;
 use libc::STDERR_FILENO;
 use libc::STDOUT_FILENO;
 use printing::Printed;
@@ -24,47 +25,11 @@ const OWED: i64 = 6510615555426900570;
 // More days than these are not looked at.
 const MOST_DAYS: u64 = 1000000;
 
-// The next number, or none: the input ends, or cannot be read.
-enum Next {
-    Number(u32),
-    End,
-}
-
-fn next_number() -> Next {
-    let mut head = [0u8; 4];
-    let got = input::read_all(&mut head);
-    let Input::Bytes(k) = got else {
-        return Next::End;
-    };
-    if k < 4 {
-        return Next::End;
-    }
-    let row = [
-        head[0],
-        head[1],
-        head[2],
-        head[3],
-        0,
-        0,
-        0,
-        0,
-        0,
-        0,
-        0,
-        0,
-        0,
-        0,
-        0,
-        0,
-    ];
-    Next::Number(rows::row_at(&row, 0).first)
-}
-
 // The next number as a count, at most so many.
 fn next_size(most: usize) -> usize
     ensures { λ r. ⌜ r ≤ most ⌝ }
 {
-    let piece = next_number();
+    let piece = input::cases::next_number();
     let Next::Number(x) = piece else {
         return 0;
     };
@@ -76,7 +41,7 @@ fn next_size(most: usize) -> usize
 fn read_lengths(lengths: &mut [u32; HOURS]) -> bool {
     let mut h = 0;
     while h < HOURS {
-        let piece = next_number();
+        let piece = input::cases::next_number();
         let Next::Number(x) = piece else {
             return false;
         };

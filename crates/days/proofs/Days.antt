@@ -18,7 +18,8 @@ use Rattle.hour.specs.Signed.{signedSum}
 use Rattle.hour.specs.Answer.{Lent, Roomy, shareIn, contractedIn, boughtIn, soldIn, moneyIn, scheduleIn, amountIn}
 use Rattle.hour.specs.declared.Summary.{Summary}
 use Rattle.settle.specs.Settled.{Settled}
-use Rattle.duties.specs.Result.{agentsOf, contractsOf, retailerIn, generatorIn, generatedIn, smallExportsIn, dispatchIn, PossibleFor, costOf, Passes, Untouched}
+use Rattle.duties.specs.Result.{agentsOf, contractsOf, retailerIn, generatorIn, generatedIn}
+use Rattle.duties.specs.Result.{smallExportsIn, dispatchIn, PossibleFor, costOf, Passes, Untouched}
 use Rattle.duties.proofs.Steps.{passes-sound}
 use Rattle.duties.proofs.Duties as duties
 use Rattle.day.specs.Day.{hours, hourSheet, figuresPart, moneyPart, schedulePart, amountsPart, partOf, dayVerdict, noSummary, DaySettled}

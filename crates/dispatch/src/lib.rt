@@ -56,7 +56,8 @@ fn portion_at(y: u32, m: u32, v: u32, left: u32) -> u32
 // Writes the schedule of the n plants.
 fn fill(offers: &[u32], available: &[u32], n: usize, demand: u32, out: &mut [u32])
     requires { ⌜ (n ≡ plantCount (now offers) (now available)) × (n ≤ length (now out)) ⌝ }
-    ensures { λ _. ⌜ Filled 0 (now (out .entry)) (now (out .exit)) n (schedule (at (now (offers .entry))) (at (now (available .entry))) n demand) ⌝ }
+    ensures { λ _. ⌜ Filled 0 (now (out .entry)) (now (out .exit)) n
+        (schedule (at (now (offers .entry))) (at (now (available .entry))) n demand) ⌝ }
 {
     let m = crossing::reach(offers, available, demand);
     let mut left = crossing::left_below(offers, available, demand, m);

@@ -21,7 +21,8 @@ use Rattle.deals.proofs.Own.{own-at, own-list, own-sum, count-own}
 use Rattle.deals.proofs.Hours.{hour-is, bought-own}
 use Rattle.hour.specs.Sheet.{Sheet, agents, plants, contracts, retails, outside}
 use Rattle.hour.specs.Sound.{Sound}
-use Rattle.hour.specs.Balance.{imported, exported, consumption, ownImport, delivered, entering, leaving, losses, consumptions, lossShare, commercial, demands, hourDemand, injected, smallExports, dispatchDemand}
+use Rattle.hour.specs.Balance.{imported, exported, consumption, ownImport, delivered, entering, leaving, losses, consumptions}
+use Rattle.hour.specs.Balance.{lossShare, commercial, demands, hourDemand, injected, smallExports, dispatchDemand}
 use Rattle.hour.specs.Lines.{scheduled, bolsaPrice, amount, own, contracted, bought, sold, money, cellsPerAgent, figure}
 use Rattle.refusals.specs.declared.Verdict.{Verdict}
 use Rattle.hour.specs.Answer.{summaryOf}

@@ -21,7 +21,8 @@ use Rattle.duties.specs.Result.{agentsOf}
 use Rattle.duties.specs.Confidence.{Alike, rowsOf, amountsFor, SellsTo, SameLine}
 use Rattle.duties.proofs.Steps.{Hour, summary-is, figure-at, money-at, amount-at, sheet-sound}
 use Rattle.duties.proofs.Stages.{settled-hour}
-use Rattle.duties.proofs.Alike.{price-same, first-same, own-amounts, amounts-same, retailer-same, generator-same, money-same, cells-same}
+use Rattle.duties.proofs.Alike.{price-same, first-same, own-amounts, amounts-same}
+use Rattle.duties.proofs.Alike.{retailer-same, generator-same, money-same, cells-same}
 
 module _ (one two : List ℕ) {before before′ x y : Lent} {q r : Summary} (done : Settled one before x q)
     (done′ : Settled two before′ y r)

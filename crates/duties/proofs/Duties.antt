@@ -14,8 +14,10 @@ use Rattle.hour.specs.Answer.{Lent, Roomy, shareIn, contractedIn, boughtIn, sol
 use Rattle.hour.specs.declared.Summary.{Summary}
 use Rattle.settle.specs.Settled.{Settled}
 use Rattle.settle.proofs.Judged.{settled-unique}
-use Rattle.duties.specs.Result.{agentsOf, contractsOf, retailerIn, generatorIn, generatedIn, smallExportsIn, dispatchIn, PossibleFor, costOf, Passes, Untouched}
-use Rattle.duties.proofs.Steps.{Hour, number-none, demand-parted, list-possible, list-cheapest, list-balanced, demand-generated, list-shares, list-buyers, list-sellers, list-money}
+use Rattle.duties.specs.Result.{agentsOf, contractsOf, retailerIn, generatorIn, generatedIn}
+use Rattle.duties.specs.Result.{smallExportsIn, dispatchIn, PossibleFor, costOf, Passes, Untouched}
+use Rattle.duties.proofs.Steps.{Hour, number-none, demand-parted, list-possible, list-cheapest, list-balanced}
+use Rattle.duties.proofs.Steps.{demand-generated, list-shares, list-buyers, list-sellers, list-money}
 use Rattle.duties.proofs.Stages.{number-known, number-tells, refused-leaves, impossible-tells, the-hour}
 
 -- For one string of bytes and the same lists at entry there is one outcome.

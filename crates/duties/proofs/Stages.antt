@@ -18,7 +18,8 @@ use Rattle.hour.proofs.Verdicts.{Uncovered, cover-told, room-fine}
 use Rattle.hour.proofs.Balance.{refused-exactly}
 use Rattle.settle.specs.Settled.{verdictOf, Settled}
 use Rattle.duties.specs.Result.{dispatchIn, plantsOf, PossibleFor, Passes, Untouched}
-use Rattle.columns.proofs.Numbers.{Between, read-between, balance-between, cover-between, room-between, inOrder, listed, early-passed, late-number, not-uncovered}
+use Rattle.columns.proofs.Numbers.{Between, read-between, balance-between, cover-between, room-between}
+use Rattle.columns.proofs.Numbers.{inOrder, listed, early-passed, late-number, not-uncovered}
 use Rattle.duties.proofs.Steps.{verdict-is, number-is, passes-sound, Hour}
 
 module _ (bytes : List ℕ) {before after : Lent} {r : Summary} (done : Settled bytes before after r) where

@@ -18,7 +18,8 @@ use Rattle.hour.specs.Sound.{Sound}
 use Rattle.hour.specs.Balance.{losses, lossShare, hourDemand, dispatchDemand}
 use Rattle.hour.specs.Lines.{scheduled, amount, contracted, bought, sold, money, cellsPerAgent, figure}
 use Rattle.hour.specs.Signed.{signedSum}
-use Rattle.hour.specs.Answer.{Lent, shareIn, contractedIn, boughtIn, soldIn, moneyIn, scheduleIn, amountIn, balanceVerdict, coverVerdict, roomVerdict, hourVerdict, summaryOf}
+use Rattle.hour.specs.Answer.{Lent, shareIn, contractedIn, boughtIn, soldIn, moneyIn, scheduleIn, amountIn}
+use Rattle.hour.specs.Answer.{balanceVerdict, coverVerdict, roomVerdict, hourVerdict, summaryOf}
 use Rattle.hour.specs.declared.Summary.{Summary}
 use Rattle.hour.proofs.Verdicts.{Balanced, balanced}
 use Rattle.hour.proofs.Cells.{share-told, contracted-told, bought-told, sold-told}
@@ -27,7 +28,8 @@ use Rattle.hour.proofs.Demand.{small-within, loss-shares, demand-delivered, gen
 use Rattle.hour.proofs.Balance.{schedule-possible, schedule-cheapest, contracted-buyers, contracted-sellers, bought-sold, money-none}
 use Rattle.columns.proofs.Columns.{sound}
 use Rattle.settle.specs.Settled.{verdictOf, Settled}
-use Rattle.duties.specs.Result.{smallExportsIn, dispatchIn, agentsOf, plantsOf, contractsOf, retailerIn, generatorIn, generatedIn, PossibleFor, costOf, Passes}
+use Rattle.duties.specs.Result.{smallExportsIn, dispatchIn, agentsOf, plantsOf, contractsOf}
+use Rattle.duties.specs.Result.{retailerIn, generatorIn, generatedIn, PossibleFor, costOf, Passes}
 use Rattle.refusals.specs.Refusals.{numberOf}
 use Rattle.columns.proofs.Numbers.{inOrder}
 

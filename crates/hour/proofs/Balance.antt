@@ -16,8 +16,10 @@ use Rattle.merit.specs.Merit.{Possible, cost}
 use Rattle.merit.proofs.MustRun.{ideal-possible, ideal-least, ideal-none}
 use Rattle.hour.specs.Sheet.{Sheet, agents, plants, contracts, retails, outside}
 use Rattle.hour.specs.Sound.{Sound}
-use Rattle.hour.specs.Balance.{rounded, imported, delivered, consumption, ownImport, commercial, demandBy, hourDemand, injected, smallExports, dispatchDemandBy, dispatchDemand}
-use Rattle.hour.specs.Lines.{scheduled, bolsaPrice, amount, Basis, ownBy, contractedBy, boughtOf, soldOf, basisOf, own, contracted, bought, sold, moneyOf, money}
+use Rattle.hour.specs.Balance.{rounded, imported, delivered, consumption, ownImport, commercial, demandBy}
+use Rattle.hour.specs.Balance.{hourDemand, injected, smallExports, dispatchDemandBy, dispatchDemand}
+use Rattle.hour.specs.Lines.{scheduled, bolsaPrice, amount, Basis, ownBy, contractedBy, boughtOf}
+use Rattle.hour.specs.Lines.{soldOf, basisOf, own, contracted, bought, sold, moneyOf, money}
 use Rattle.hour.specs.Signed.{signedSum}
 use Rattle.hour.specs.Answer.{coverVerdict}
 use Rattle.refusals.proofs.Fine.{not-fine}
@@ -187,7 +189,8 @@ module _ (s : Sheet) (ok : Sound s) where
           go false false e f = omega (arith, idle a l e, inside-injects a f)
 
       -- lines that have this own energy and these contracts
-      module _ (o h : ℕ → ℕ) (owns : (a : ℕ) → a < agents s → o a ≡ ownBy s t a) (holds : (a : ℕ) → a < agents s → h a ≡ contractedBy s t a) where
+      module _ (o h : ℕ → ℕ) (owns : (a : ℕ) → a < agents s → o a ≡ ownBy s t a)
+          (holds : (a : ℕ) → a < agents s → h a ≡ contractedBy s t a) where
         -- one agent: what it buys and what others owe to it, against what it sells and what it owes
         even : (a : ℕ) → a < agents s
             → boughtOf s o h a + (made s t a + injected s a + buys s t a) ≡ soldOf s o h a + (t .demand a + ownImport s a + sells s t a)
@@ -224,7 +227,9 @@ module _ (s : Sheet) (ok : Sound s) where
               )
 
 -- as much sold as bought over all agents, the money sums to 0, whatever the price
-pub money-none-by : (n : ℕ) (sold bought : ℕ → ℕ) (p : ℕ) → sum n bought ≡ sum n sold → signedSum n (λ a. moneyOf (sold a) (bought a) p) ≡ pos 0
+pub money-none-by : (n : ℕ) (sold bought : ℕ → ℕ) (p : ℕ)
+    → sum n bought ≡ sum n sold
+    → signedSum n (λ a. moneyOf (sold a) (bought a) p) ≡ pos 0
 money-none-by n sold bought p e = money-sum n sold bought p ∙ money-even (sum n sold) (sum n bought) p (sym e)
 
 -- ---- the lines of the hour itself

@@ -14,7 +14,8 @@ use Rattle.merit.proofs.MustRun.{ideal-within}
 use Rattle.merit.proofs.Price.{price-most}
 use Rattle.hour.specs.Sheet.{Sheet, agents, boundaries, plants, retails, outside}
 use Rattle.hour.specs.Sound.{Sound}
-use Rattle.hour.specs.Balance.{referred, rounded, imported, exported, consumption, consumed, ownImport, delivered, entering, leaving, losses, injected, dispatchDemand}
+use Rattle.hour.specs.Balance.{referred, rounded, imported, exported, consumption, consumed, ownImport}
+use Rattle.hour.specs.Balance.{delivered, entering, leaving, losses, injected, dispatchDemand}
 use Rattle.hour.specs.Lines.{scheduled, bolsaPrice}
 
 -- ---- what the numbers are bounded by: counts of rows times the limits of a row

@@ -13,8 +13,11 @@ use Rattle.merit.specs.Merit.{before, ahead, schedule, idealDispatch, hourPrice
 use Rattle.deals.specs.Deals.{stands, aheadOf, firmAt, restOf, cheaperOf, groupOf, demandedAt, amountAt, amountsOf}
 use Rattle.deals.specs.Hour.{ownTo, ownCount, ownOf, hourAmount}
 use Rattle.hour.specs.Sheet.{Sheet, agents, plants, contracts, retails, outside}
-use Rattle.hour.specs.Balance.{referred, rounded, imported, exported, consumption, consumed, ownImport, delivered, entering, leaving, losses, consumptions, lossShare, commercial, demands, hourDemand, injected, smallExports, dispatchDemand}
-use Rattle.hour.specs.Lines.{scheduled, bolsaPrice, amount, own, contracted, bought, sold, moneyOf, money, cellsPerAgent, cellOf, figure}
+use Rattle.hour.specs.Balance.{referred, rounded, imported, exported, consumption, consumed, ownImport}
+use Rattle.hour.specs.Balance.{delivered, entering, leaving, losses, consumptions, lossShare, commercial}
+use Rattle.hour.specs.Balance.{demands, hourDemand, injected, smallExports, dispatchDemand}
+use Rattle.hour.specs.Lines.{scheduled, bolsaPrice, amount, own, contracted, bought}
+use Rattle.hour.specs.Lines.{sold, moneyOf, money, cellsPerAgent, cellOf, figure}
 use Rattle.hour.specs.Answer.{Lent, firstOver, balanceVerdict, coverVerdict, roomVerdict, hourVerdict}
 
 -- a retailer alone, with these boundary rows
@@ -267,5 +270,9 @@ cases =
     ∷ []
 
 pub cases-hold : map (λ (c : Case). answer (c .ask)) cases ≡ map (λ (c : Case). c .due) cases
-unfolding answer cases sum peak pick keyed stop first total listTo leftOver goesBefore rankOf shareOf before ahead schedule idealDispatch hourPrice stands aheadOf firmAt restOf cheaperOf groupOf demandedAt amountAt amountsOf ownTo ownCount ownOf hourAmount retails outside referred rounded imported exported consumption consumed ownImport delivered entering leaving losses consumptions lossShare commercial demands hourDemand injected smallExports dispatchDemand scheduled bolsaPrice amount own contracted bought sold moneyOf money cellOf figure firstOver balanceVerdict coverVerdict roomVerdict hourVerdict
+unfolding answer cases sum peak pick keyed stop first total listTo leftOver goesBefore rankOf shareOf before ahead schedule
+    idealDispatch hourPrice stands aheadOf firmAt restOf cheaperOf groupOf demandedAt amountAt amountsOf ownTo ownCount ownOf
+    hourAmount retails outside referred rounded imported exported consumption consumed ownImport delivered entering leaving losses
+    consumptions lossShare commercial demands hourDemand injected smallExports dispatchDemand scheduled bolsaPrice amount own
+    contracted bought sold moneyOf money cellOf figure firstOver balanceVerdict coverVerdict roomVerdict hourVerdict
 cases-hold = refl

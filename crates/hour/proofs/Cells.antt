@@ -71,7 +71,8 @@ module _ (s : Sheet) where
   figure-sold a = cell-at a 5 (omega arith)
 
 -- lists that hold the sheet's figures, told by agent
-module _ (s : Sheet) (l : Lent) (same : (k : ℕ) → k < cellsPerAgent * agents s → at (l .figures) k ≡ figure s k) (a : ℕ) (h : a < agents s) where
+module _ (s : Sheet) (l : Lent) (same : (k : ℕ) → k < cellsPerAgent * agents s → at (l .figures) k ≡ figure s k)
+    (a : ℕ) (h : a < agents s) where
   pub share-told : shareIn l a ≡ lossShare s a
   share-told = same (cellsPerAgent * a) (omega arith) ∙ figure-share s a
 

@@ -19,7 +19,9 @@ use Rattle.share.specs.Share.{shareOf}
 use Rattle.share.proofs.Laws.{shares-sum, share-no-weight, share-no-amount}
 use Rattle.hour.specs.Sheet.{Sheet, agents, boundaries, retails, outside}
 use Rattle.hour.specs.Sound.{Sound}
-use Rattle.hour.specs.Balance.{referred, rounded, imported, exported, consumption, consumed, ownImport, delivered, entering, leaving, losses, consumptions, lossShare, commercial, hourDemand, generated, injected, smallExports}
+use Rattle.hour.specs.Balance.{referred, rounded, imported, exported, consumption, consumed, ownImport, delivered, entering}
+use Rattle.hour.specs.Balance.{leaving, losses, consumptions, lossShare, commercial, hourDemand, generated, injected}
+use Rattle.hour.specs.Balance.{smallExports}
 use Rattle.hour.proofs.Verdicts.{Balanced}
 use Rattle.hour.proofs.Bounds.{rounded-whole, injected-part}
 

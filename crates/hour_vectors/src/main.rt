@@ -1,7 +1,7 @@
 // Reads sheets from standard input, settles each, and prints its page and its lists.
 // A case is a 32-bit length, the low byte first, and that many bytes.
 use hour::Summary;
-use input::Input;
+use input::cases::Case;
 use libc::STDERR_FILENO;
 use libc::STDOUT_FILENO;
 use printing::Printed;
@@ -9,68 +9,10 @@ use sheet::Counts;
 use sheet::Reading;
 ghost use Prim.Native.Nat.{_*_, _≤_};
 ghost use lib.ListN.{length};
-ghost use Rattle.hour_vectors.specs.Cases.{Holds, Fits};
-
-// The next case: a sheet of so many bytes, the end of the input, an input that ends within a case, or a failed read.
-enum Case {
-    Sheet(usize),
-    End,
-    Cut,
-    Failed,
-}
+ghost use Rattle.hour_vectors.specs.Cases.{RowsFit};
 
 // More cases than these are not looked at.
 const MOST_CASES: u64 = 1000000;
-
-// The bytes of a case whose length is known.
-fn read_sheet(buf: &mut [u8], n: usize) -> Case
-    ensures { λ r. ⌜ Holds r (length (now (buf .exit))) ⌝ }
-{
-    if buf.len() < n {
-        return Case::Cut;
-    }
-    let got = input::read_all(&mut buf[..n]);
-    let Input::Bytes(k) = got else {
-        return Case::Failed;
-    };
-    if k < n { Case::Cut } else { Case::Sheet(n) }
-}
-
-fn read_case(buf: &mut [u8]) -> Case
-    ensures { λ r. ⌜ Holds r (length (now (buf .exit))) ⌝ }
-{
-    let mut head = [0u8; 4];
-    let got = input::read_all(&mut head);
-    let Input::Bytes(k) = got else {
-        return Case::Failed;
-    };
-    if k == 0 {
-        return Case::End;
-    }
-    if k < 4 {
-        return Case::Cut;
-    }
-    let row = [
-        head[0],
-        head[1],
-        head[2],
-        head[3],
-        0,
-        0,
-        0,
-        0,
-        0,
-        0,
-        0,
-        0,
-        0,
-        0,
-        0,
-        0,
-    ];
-    let n = rows::row_at(&row, 0).first as usize;
-    read_sheet(buf, n)
-}
 
 fn print_number(n: u32) {
     io::write_all(STDOUT_FILENO, b" ");
@@ -128,7 +70,7 @@ fn print_page(s: Summary, bytes: &[u8], n: usize, figures: &[u32], money: &[i64]
 }
 
 fn print_lists(c: Counts, figures: &[u32], schedule: &[u32], amounts: &[u32])
-    requires { ⌜ Fits c × (384 ≤ length (now figures)) × (64 ≤ length (now schedule)) × (256 ≤ length (now amounts)) ⌝ }
+    requires { ⌜ RowsFit c × (384 ≤ length (now figures)) × (64 ≤ length (now schedule)) × (256 ≤ length (now amounts)) ⌝ }
 {
     io::write_all(STDOUT_FILENO, b"shares");
     print_shares(figures, c.agents);
@@ -168,7 +110,7 @@ fn main() {
     let mut buf = io::large_buffer();
     let mut number: u64 = 0;
     while number < MOST_CASES {
-        let case = read_case(&mut buf);
+        let case = input::cases::read_case(&mut buf);
         match case {
             Case::End => return,
             Case::Cut => {

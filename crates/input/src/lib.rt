@@ -3,6 +3,8 @@ ghost use lib.ListN.{length};
 ghost use Rattle.input.specs.Input.{Within};
 use libc::STDIN_FILENO;
 
+pub mod cases;
+
 // How many bytes of the buffer the input has filled, or that a read failed.
 pub enum Input {
     Bytes(usize),

@@ -26,11 +26,14 @@ use Rattle.sheet.specs.Counting.{countVerdict}
 use Rattle.sheet.specs.declared.Counts.{Counts}
 use Rattle.sheet.specs.declared.Reading.{Reading}
 use Rattle.sheet.proofs.Counted.{Counted, fits-counted, verdict-fits}
-use Rattle.mend.specs.Mend.{mendedAt, countTo, changed, changes, changePlace, reportAt, roomGood, mendVerdict, mending, Mended, Mends, undone}
+use Rattle.mend.specs.Mend.{mendedAt, countTo, changed, changes, changePlace, reportAt}
+use Rattle.mend.specs.Mend.{roomGood, mendVerdict, mending, Mended, Mends, undone}
 use Rattle.mend.specs.declared.Mending.{Mending}
 use Rattle.mend.proofs.Places.{Found, place-is, place-found, count-rises}
 use Rattle.mend.proofs.Range.{row-kept}
-use Rattle.mend.proofs.Sound.{mendedSheet, mended-length, mended-byte, byte-same, mended-counts, mended-layout, agent-blanks, boundary-blanks, mended-counted, sheet-twice, accepted-left, accepted-length, counted-verdict, left-unchanged}
+use Rattle.mend.proofs.Sound.{mendedSheet, mended-length, mended-byte, byte-same, mended-counts}
+use Rattle.mend.proofs.Sound.{mended-layout, agent-blanks, boundary-blanks, mended-counted, sheet-twice}
+use Rattle.mend.proofs.Sound.{accepted-left, accepted-length, counted-verdict, left-unchanged}
 
 -- ---- one outcome, and a refusal's
 pub mend-unique : (s copy report copy′ copy″ report′ report″ : List ℕ) (r r′ : Mending)

@@ -22,14 +22,17 @@ use Rattle.rows.specs.Rows.{agentBlank, boundaryBlank}
 use Rattle.rows.specs.declared.Words.{Words}
 use Rattle.rows.proofs.Good.{agent-blank, boundary-blank}
 use Rattle.rows.proofs.Trip.{Bytes, row-narrow, rows-back, bytes-back, bytesOf-bytes}
-use Rattle.sheet.specs.Reading.{boundaryStart, plantStart, contractStart, trailerStart, sheetLength, lengthGood, countsOf, countsGood, distancesGood, layoutGood, checks, readVerdict, readOf}
+use Rattle.sheet.specs.Reading.{boundaryStart, plantStart, contractStart, trailerStart, sheetLength, lengthGood}
+use Rattle.sheet.specs.Reading.{countsOf, countsGood, distancesGood, layoutGood, checks, readVerdict, readOf}
 use Rattle.sheet.specs.Counting.{countVerdict}
 use Rattle.sheet.specs.declared.Counts.{Counts}
 use Rattle.sheet.specs.declared.Reading.{Reading}
 use Rattle.sheet.proofs.Accepted.{good-few, few-good, Whole, accepted-whole, accepted-fine}
 use Rattle.sheet.proofs.Counted.{Counted}
-use Rattle.mend.specs.Mend.{distance, agentsAndBoundaries, plantsAndContracts, rowMended, mendedRow, mendedAt, countTo, changed, changes}
-use Rattle.mend.proofs.Range.{Range, agent, boundary, kept, head, tail, range, row-agent, row-boundary, row-kept, row-head, row-tail, row-twice, mended-narrow, row-same}
+use Rattle.mend.specs.Mend.{distance, agentsAndBoundaries, plantsAndContracts}
+use Rattle.mend.specs.Mend.{rowMended, mendedRow, mendedAt, countTo, changed, changes}
+use Rattle.mend.proofs.Range.{Range, agent, boundary, kept, head, tail, range, row-agent, row-boundary}
+use Rattle.mend.proofs.Range.{row-kept, row-head, row-tail, row-twice, mended-narrow, row-same}
 use Rattle.mend.proofs.Verdicts.{counted-mendable}
 
 unfoldable pub mendedSheet : List ℕ → List ℕ

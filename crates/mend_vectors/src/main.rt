@@ -3,42 +3,14 @@
 // the report in changes. A copy that isn't the sheet with just the changes reported, or a byte or cell that was not to be written
 // and was, is told in a line that no expected answer has.
 ghost use Prim.Native.Nat.{_≤_, _<_};
-use input::Input;
-use libc::STDERR_FILENO;
+use input::cases::Case;
+use input::cases::Next;
 use libc::STDOUT_FILENO;
-use rows::Words;
 
 // What stands in the lent lists before, so that a write can be seen.
 const BYTE: u8 = 165;
 
 const CELL: u32 = 2779096485;
-
-// How a buffer was filled: all of it, not at all for the input had ended, in part, or the reading failed; or it is too short.
-enum Got {
-    Full,
-    End,
-    Cut,
-    Failed,
-    Long,
-}
-
-fn how_full(n: usize, wanted: usize) -> Got {
-    if n == wanted {
-        Got::Full
-    } else if n == 0 {
-        Got::End
-    } else {
-        Got::Cut
-    }
-}
-
-// Reads until the buffer is full.
-fn fill(buf: &mut [u8]) -> Got {
-    match input::read_all(buf) {
-        Input::Bytes(n) => how_full(n, buf.len()),
-        Input::Failed => Got::Failed,
-    }
-}
 
 fn say(text: &[u8]) {
     io::write_all(STDOUT_FILENO, text);
@@ -184,47 +156,6 @@ fn print_case(case: u64, s: &[u8], copy: &mut [u8], report: &mut [u32]) {
     }
 }
 
-// What stopped the program; nothing where the input just ended.
-fn complain(got: Got) {
-    match got {
-        Got::Failed => {
-            io::write_all(STDERR_FILENO, b"mend_vectors: the input cannot be read\n");
-        }
-        Got::Cut => {
-            io::write_all(
-                STDERR_FILENO,
-                b"mend_vectors: the input ends within a case\n",
-            );
-        }
-        Got::Long => {
-            io::write_all(STDERR_FILENO, b"mend_vectors: a case is too long\n");
-        }
-        _ => {}
-    }
-}
-
-// The first n bytes of a row that is read, the rest 0; or what came instead.
-enum Head {
-    Row(Words),
-    Stopped(Got),
-}
-
-fn read_front(head: &mut [u8], n: usize) -> Head {
-    if head.len() < n {
-        return Head::Stopped(Got::Long);
-    }
-    let got = fill(&mut head[..n]);
-    match got {
-        Got::Full => Head::Row(rows::row_at(head, 0)),
-        _ => Head::Stopped(got),
-    }
-}
-
-fn read_head(n: usize) -> Head {
-    let mut head = [0u8; 16];
-    read_front(&mut head, n)
-}
-
 // Lends just the room that the case says, and says whether there is so much.
 fn lend_front(
     case: u64,
@@ -235,11 +166,11 @@ fn lend_front(
     cells: usize,
 ) -> bool {
     if copy.len() < bytes {
-        complain(Got::Long);
+        input::cases::complain(Case::Cut);
         return false;
     }
     if report.len() < cells {
-        complain(Got::Long);
+        input::cases::complain(Case::Cut);
         return false;
     }
     print_case(case, s, &mut copy[..bytes], &mut report[..cells]);
@@ -262,49 +193,27 @@ fn lend(case: u64, s: &[u8], bytes: usize, changes: u32) -> bool {
 
 // The room of copy and report, behind the sheet; and whether to go on.
 fn run_rooms(case: u64, s: &[u8]) -> bool {
-    let head = read_head(8);
-    match head {
-        Head::Row(w) => lend(case, s, w.first as usize, w.second),
-        Head::Stopped(_) => {
-            complain(Got::Cut);
-            false
-        }
-    }
-}
-
-// A case whose sheet has n bytes.
-fn run_sheet(case: u64, n: usize, buf: &mut [u8]) -> bool {
-    if buf.len() < n {
-        complain(Got::Long);
+    let first = input::cases::next_number();
+    let Next::Number(bytes) = first else {
+        input::cases::complain(Case::Cut);
         return false;
-    }
-    let got = fill(&mut buf[..n]);
-    if buf.len() < n {
+    };
+    let second = input::cases::next_number();
+    let Next::Number(changes) = second else {
+        input::cases::complain(Case::Cut);
         return false;
-    }
-    match got {
-        Got::Full => run_rooms(case, &buf[..n]),
-        Got::End => {
-            complain(Got::Cut);
-            false
-        }
-        _ => {
-            complain(got);
-            false
-        }
-    }
+    };
+    lend(case, s, bytes as usize, changes)
 }
 
 fn run_case(case: u64) -> bool {
     let mut buf = [0u8; 16384];
-    let head = read_head(4);
-    match head {
-        Head::Row(w) => run_sheet(case, w.first as usize, &mut buf),
-        Head::Stopped(got) => {
-            complain(got);
-            false
-        }
-    }
+    let sheet = input::cases::read_case(&mut buf);
+    let Case::Sheet(n) = sheet else {
+        input::cases::complain(sheet);
+        return false;
+    };
+    run_rooms(case, &buf[..n])
 }
 
 fn main() {

@@ -21,7 +21,8 @@ rearrange x y u v h g =
     rw (← ek, ← em) (omega arith)
 
 -- s is in order of merit and q is any other: each plant is weighed against the dearest plant that s has above its least
-module _ (p least a : ℕ → ℕ) (n d : ℕ) (s q : ℕ → ℕ) (ps : Possible least a n d s) (merit : ByMerit p least a n s) (pq : Possible least a n d q) where
+module _ (p least a : ℕ → ℕ) (n d : ℕ) (s q : ℕ → ℕ) (ps : Possible least a n d s) (merit : ByMerit p least a n s)
+    (pq : Possible least a n d q) where
   marginal : ℕ
   marginal = peak n (λ i. pick (ltb (least i) (s i)) (p i))
 
@@ -79,7 +80,10 @@ none-possible a n d = (λ h q pq. omega (arith, sum-le n q a (pq .within), pq .m
     go h (no l) = absurd (h (schedule none a n d) (schedule-possible none a n d (omega arith)))
 
 -- ---- both rest on nothing but the first n plants
-pub possible-eq : (least a : ℕ → ℕ) (n d : ℕ) (q r : ℕ → ℕ) → ((i : ℕ) → i < n → q i ≡ r i) → Possible least a n d q → Possible least a n d r
+pub possible-eq : (least a : ℕ → ℕ) (n d : ℕ) (q r : ℕ → ℕ)
+    → ((i : ℕ) → i < n → q i ≡ r i)
+    → Possible least a n d q
+    → Possible least a n d r
 possible-eq least a n d q r e h =
     record {
       enough = λ i l. omega (arith, e i l, h .enough i l);

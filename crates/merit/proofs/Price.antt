@@ -43,7 +43,13 @@ module _ (p t q : ℕ → ℕ) where
     unfolding hourPrice
     price-set = go (decLt 0 (peak n (bid p t q)))
       where
-        of : (k : ℕ) → k < n → bid p t q k ≡ peak n (bid p t q) → 0 < peak n (bid p t q) → Dec (t k ≡ 0) → Dec (0 < q k) → Sets p t q n (peak n (bid p t q))
+        of : (k : ℕ)
+            → k < n
+            → bid p t q k ≡ peak n (bid p t q)
+            → 0 < peak n (bid p t q)
+            → Dec (t k ≡ 0)
+            → Dec (0 < q k)
+            → Sets p t q n (peak n (bid p t q))
         of k l e h (yes f) (yes s) =
             record {
               which = k;
@@ -52,7 +58,8 @@ module _ (p t q : ℕ → ℕ) where
               scheduled = s;
               offer = omega (arith, pick-eq (t k) 0 (pick (ltb 0 (q k)) (p k)) f, pick-lt 0 (q k) (p k) s);
             }
-        of k l e h (yes f) (no s) = absurd (omega (arith, pick-eq (t k) 0 (pick (ltb 0 (q k)) (p k)) f, pick-ge 0 (q k) (p k) (omega arith)))
+        of k l e h (yes f) (no s) = absurd
+            (omega (arith, pick-eq (t k) 0 (pick (ltb 0 (q k)) (p k)) f, pick-ge 0 (q k) (p k) (omega arith)))
         of k l e h (no f) s = absurd (omega (arith, pick-ne (t k) 0 (pick (ltb 0 (q k)) (p k)) f))
 
         go : Dec (0 < peak n (bid p t q)) → (peak n (bid p t q) ≡ 0) ⊎ Sets p t q n (peak n (bid p t q))

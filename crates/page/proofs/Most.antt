@@ -27,10 +27,10 @@ use Rattle.hour.proofs.Verdicts.{Balanced, balanced}
 use Rattle.hour.proofs.Bounds.{imported-le, import-le, losses-le, price-le}
 use Rattle.hour.proofs.Fits.{mostBought, contracted-le, demand-most, own-le, bought-le, sold-le}
 use Rattle.hour.proofs.Money.{money-pos, money-neg}
-use Rattle.columns.specs.Columns.{columnsOf, hourOf}
+use Rattle.columns.specs.Columns.{columnsOf, hourOf, sheetVerdict}
 use Rattle.columns.proofs.Columns.{agents-long, kind-at, sound}
 use Rattle.printing.proofs.Length.{ShortLine, ShortPage, refused-page, hour-page}
-use Rattle.page.specs.Page.{verdictFor, pageText}
+use Rattle.page.specs.Page.{pageText}
 use Rattle.page.proofs.Paged.{Told, told-all}
 
 -- ---- money: at most 2,560,000,000 kWh either way, at the highest offer
@@ -77,13 +77,13 @@ module _ (s : Sheet) (ok : Sound s) (b : Balanced s) (a : ℕ) (l : a < agents s
       }
 
 -- ---- the page
-module _ (bytes : List ℕ) (e : verdictFor bytes ≡ Verdict.Fine) where
+module _ (bytes : List ℕ) (e : sheetVerdict bytes ≡ Verdict.Fine) where
   read-fine : readVerdict bytes ≡ Verdict.Fine
-  unfolding verdictFor
+  unfolding sheetVerdict
   read-fine = fine-parts (readVerdict bytes ∷ balanceVerdict (hourOf bytes) ∷ coverVerdict (hourOf bytes) ∷ []) e .0
 
   hour-balanced : Balanced (hourOf bytes)
-  unfolding verdictFor
+  unfolding sheetVerdict
   hour-balanced =
       balanced (hourOf bytes)
       (fine-parts (readVerdict bytes ∷ balanceVerdict (hourOf bytes) ∷ coverVerdict (hourOf bytes) ∷ []) e .1 .0)
@@ -125,9 +125,9 @@ module _ (bytes : List ℕ) (e : verdictFor bytes ≡ Verdict.Fine) where
 
 pub page-most : (bytes : List ℕ) → length (pageText bytes) ≤ 5120
 unfolding pageText Told
-page-most bytes = go (verdictFor bytes) refl
+page-most bytes = go (sheetVerdict bytes) refl
   where
-    go : (v : Verdict) → verdictFor bytes ≡ v → length (pageText bytes) ≤ 5120
+    go : (v : Verdict) → sheetVerdict bytes ≡ v → length (pageText bytes) ≤ 5120
     go (Verdict.Refused q) e = rw e
         (le-trans (refused-page (summaryOf (Verdict.Refused q) (hourOf bytes)) _ _ _ (told-all bytes q e))
         (omega arith))

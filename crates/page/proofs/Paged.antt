@@ -10,29 +10,28 @@ use lib.IntN.{ℤ, pos}
 use lib.ListN.{length, take}
 use Rattle.sums.specs.Lists.{at, listTo, Filled}
 use Rattle.sums.proofs.Fill.{filled-front}
-use Rattle.refusals.specs.Refusals.{noRoom, refusedUnless, orElse}
+use Rattle.refusals.specs.Refusals.{noRoom, refusedUnless, numberOf}
 use Rattle.refusals.specs.declared.Refusal.{Refusal}
 use Rattle.refusals.specs.declared.Verdict.{Verdict}
-use Rattle.rows.specs.Limits.{mostAgents, mostPlants, mostContracts}
+use Rattle.rows.specs.Limits.{mostAgents}
 use Rattle.sheet.specs.Reading.{readVerdict, countsOf, readOf, reading}
 use Rattle.sheet.specs.Asking.{agentAt}
 use Rattle.sheet.specs.declared.Counts.{Counts}
 use Rattle.sheet.specs.declared.Reading.{Reading}
 use Rattle.hour.specs.Sheet.{agents}
 use Rattle.hour.specs.Lines.{figure, money}
-use Rattle.hour.specs.Answer.{Lent, hourVerdict, balanceVerdict, coverVerdict, roomVerdict, summaryOf}
+use Rattle.hour.specs.Answer.{Lent, roomVerdict, summaryOf}
 use Rattle.hour.specs.declared.Summary.{Summary}
-use Rattle.columns.specs.Columns.{columnsOf, hourOf}
-use Rattle.columns.proofs.Columns.{agents-long, plants-long, contracts-long}
-use Rattle.hour.proofs.Verdicts.{room-fine}
-use Rattle.sheet.proofs.Accepted.{Few}
+use Rattle.columns.specs.Columns.{columnsOf, hourOf, sheetVerdict}
+use Rattle.columns.proofs.Columns.{agents-long}
 use Rattle.refusals.proofs.Fine.{else-fine}
-use Rattle.columns.proofs.Numbers.{Between, read-between, balance-between, cover-between}
+use Rattle.columns.proofs.Numbers.{read-between}
+use Rattle.columns.proofs.Refusing.{none-of, none-fine, room-enough}
 use Rattle.settle.specs.Settled.{lent, verdictOf, Settled}
 use Rattle.printing.specs.Page.{pageOf, printVerdict, printed}
 use Rattle.printing.specs.declared.Printed.{Printed}
 use Rattle.printing.proofs.Printing.{one-outcome as printed-once}
-use Rattle.page.specs.Page.{verdictFor, pageText, PrintsAll}
+use Rattle.page.specs.Page.{pageText, PrintsAll}
 use Rattle.page.specs.Refused.{refusedSummary}
 
 -- the lists of a sheet's agents are refused only for want of room
@@ -67,32 +66,21 @@ same-lists r k f k′ f′ m m′ p q s = cc
 unfoldable pub Told : Verdict → Type 0
 Told v = (q : Refusal) → v ≡ Verdict.Refused q → q .number ≡ 0 → ⊥
 
-told : (lo hi : ℕ) (v : Verdict) → 0 < lo → Between lo hi v → Told v
+told : (v : Verdict) → (numberOf v ≡ 0 → v ≡ Verdict.Fine) → Told v
 unfolding Told
-told lo hi Verdict.Fine l b q e z = let no : _≡_ {A = ℕ} 0 1 = cc in omega arith
-told lo hi (Verdict.Refused r) l b q e z = let s : r .number ≡ q .number = cc in omega (arith, b .0)
+told v f q e z =
+    let fine : v ≡ Verdict.Fine = f (ap (λ (w : Verdict). numberOf w) e ∙ z) in
+    let no : _≡_ {A = ℕ} 0 1 = cc in
+    omega arith
 
-told-or : (v w : Verdict) → Told v → Told w → Told (orElse v w)
-unfolding Told
-told-or Verdict.Fine w p q = q
-told-or (Verdict.Refused r) w p q = p
-
-pub told-all : (bytes : List ℕ) → Told (verdictFor bytes)
-unfolding Told verdictFor
-told-all bytes =
-    let h = hourOf bytes in
-    told-or (readVerdict bytes) (orElse (balanceVerdict h) (orElse (coverVerdict h) Verdict.Fine))
-    (told 1 6 (readVerdict bytes) (omega arith) (read-between bytes))
-    (told-or (balanceVerdict h) (orElse (coverVerdict h) Verdict.Fine)
-    (told 7 9 (balanceVerdict h) (omega arith) (balance-between h))
-    (told-or (coverVerdict h) Verdict.Fine (told 10 13 (coverVerdict h) (omega arith) (cover-between h))
-    (λ q e z. let no : _≡_ {A = ℕ} 0 1 = cc in omega arith)))
+pub told-all : (bytes : List ℕ) → Told (sheetVerdict bytes)
+told-all bytes = told (sheetVerdict bytes) (none-fine bytes)
 
 -- a sheet that reading refuses
 pub refused-read : (bytes : List ℕ) (q : Refusal)
     → readOf bytes ≡ Reading.Refused q
     → pageText bytes ≡ pageOf (refusedSummary q) [] [] []
-unfolding pageText verdictFor readOf Told
+unfolding pageText sheetVerdict readOf Told
 refused-read bytes q e = go (readVerdict bytes) refl e
   where
     go : (v : Verdict)
@@ -103,30 +91,8 @@ refused-read bytes q e = go (readVerdict bytes) refl e
     go (Verdict.Refused r) f h =
         let s : r ≡ q = cc in
         rw (f, s) (refused-same (refusedSummary q) _ _ [] [] _ []
-        (told 1 6 (readVerdict bytes) (omega arith) (read-between bytes) q (f ∙ ap Verdict.Refused s)))
-
--- with room for all the verdict is the page's
-room-enough : (bytes : List ℕ) (l : Lent)
-    → roomVerdict (hourOf bytes) l ≡ Verdict.Fine
-    → verdictOf bytes l ≡ verdictFor bytes
-unfolding verdictOf verdictFor hourVerdict
-room-enough bytes l e = rw e
-
--- lists for every row that a sheet may have have room for every accepted sheet
-pub room-for : (bytes : List ℕ) (c : Counts) → countsOf bytes ≡ c → Few c → (l : Lent)
-    → 6 * mostAgents ≤ length (l .figures) → mostAgents ≤ length (l .money) → mostPlants ≤ length (l .schedule)
-    → mostContracts ≤ length (l .amounts)
-    → roomVerdict (hourOf bytes) l ≡ Verdict.Fine
-unfolding hourOf
-room-for bytes c e w l f m s a =
-    rw e
-    (room-fine (columnsOf bytes c) l
-    (record {
-      figures = omega (arith, agents-long bytes c, w .agents);
-      money = omega (arith, agents-long bytes c, w .agents);
-      schedule = omega (arith, plants-long bytes c, w .plants);
-      amounts = omega (arith, contracts-long bytes c, w .contracts);
-    }))
+        (told (readVerdict bytes) (none-of 1 6 (readVerdict bytes) (omega arith) (read-between bytes)) q
+        (f ∙ ap Verdict.Refused s)))
 
 -- an accepted sheet that was settled into lists with room
 module _ (bytes : List ℕ) (c : Counts) (counts : countsOf bytes ≡ c) (r : Summary) (before : Lent)
@@ -159,14 +125,14 @@ module _ (bytes : List ℕ) (c : Counts) (counts : countsOf bytes ≡ c) (r : Su
 
   pub settled-page : pageText bytes
       ≡ pageOf r (take (c .agents) kinds) (take (6 * c .agents) figures) (take (c .agents) owed)
-  unfolding pageText Told
-  settled-page = go (verdictFor bytes) refl
+  unfolding pageText Told verdictOf
+  settled-page = go (sheetVerdict bytes) refl
     where
-      same : verdictOf bytes before ≡ verdictFor bytes
+      same : verdictOf bytes before ≡ sheetVerdict bytes
       same = room-enough bytes before room
 
       go : (v : Verdict)
-          → verdictFor bytes ≡ v
+          → sheetVerdict bytes ≡ v
           → pageText bytes ≡ pageOf r (take (c .agents) kinds) (take (6 * c .agents) figures) (take (c .agents) owed)
       go (Verdict.Refused q) e =
           let s : r ≡ summaryOf (Verdict.Refused q) (hourOf bytes) = done .answered

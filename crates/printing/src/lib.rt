@@ -139,8 +139,10 @@ fn put_line(
     money: &[i64],
     a: usize,
 ) -> usize
-    requires { ⌜ (169 ≤ at) × (at ≤ length (now s)) × (a < length (now kinds)) × (length (now kinds) ≤ mostAgents) × (6 * length (now kinds) ≤ length (now figures)) × (length (now kinds) ≤ length (now money)) ⌝ }
-    ensures { λ r. ⌜ Put (lineOf (now (kinds .entry)) (now (figures .entry)) (now (money .entry)) a (drop at (now (s .entry)))) (now (s .exit)) at 169 r ⌝ }
+    requires { ⌜ (169 ≤ at) × (at ≤ length (now s)) × (a < length (now kinds)) × (length (now kinds) ≤ mostAgents)
+        × (6 * length (now kinds) ≤ length (now figures)) × (length (now kinds) ≤ length (now money)) ⌝ }
+    ensures { λ r. ⌜ Put (lineOf (now (kinds .entry)) (now (figures .entry)) (now (money .entry)) a (drop at (now (s .entry))))
+        (now (s .exit)) at 169 r ⌝ }
 {
     let i = put_byte(s, at, b'\n');
     let owed = money[a];
@@ -225,7 +227,8 @@ fn line_length(kinds: &[u32], figures: &[u32], money: &[i64], a: usize) -> usize
 
 fn lines_length(kinds: &[u32], figures: &[u32], money: &[i64], n: usize) -> usize
     requires { ⌜ Listed (length (now kinds)) (length (now figures)) (length (now money)) × (n ≤ length (now kinds)) ⌝ }
-    ensures { λ k. ⌜ (k ≡ length (linesTo (lineOf (now (kinds .entry)) (now (figures .entry)) (now (money .entry))) n [])) × (k ≤ 169 * n) ⌝ }
+    ensures { λ k. ⌜ (k ≡ length (linesTo (lineOf (now (kinds .entry)) (now (figures .entry)) (now (money .entry))) n []))
+        × (k ≤ 169 * n) ⌝ }
 {
     let mut k = 0;
     let mut a = 0;
@@ -270,7 +273,9 @@ fn write_line(
 ) -> usize
     requires { ⌜ Listed (length (now kinds)) (length (now figures)) (length (now money)) × (a < length (now kinds)) ⌝ }
     requires { ⌜ k + length (lineOf (now kinds) (now figures) (now money) a []) ≤ length (now out) ⌝ }
-    ensures { λ e. ⌜ (e ≡ k + length (lineOf (now (kinds .entry)) (now (figures .entry)) (now (money .entry)) a [])) × Appended (lineOf (now (kinds .entry)) (now (figures .entry)) (now (money .entry)) a []) k (now (out .entry)) (now (out .exit)) ⌝ }
+    ensures { λ e. ⌜ (e ≡ k + length (lineOf (now (kinds .entry)) (now (figures .entry)) (now (money .entry)) a []))
+        × Appended (lineOf (now (kinds .entry)) (now (figures .entry)) (now (money .entry)) a []) k (now (out .entry))
+        (now (out .exit)) ⌝ }
 {
     let mut s = [0u8; LINE];
     let from = put_line(&mut s, LINE, kinds, figures, money, a);
@@ -282,7 +287,8 @@ fn write_line(
 fn write_lines(kinds: &[u32], figures: &[u32], money: &[i64], n: usize, out: &mut [u8], from: usize)
     requires { ⌜ Listed (length (now kinds)) (length (now figures)) (length (now money)) × (n ≤ length (now kinds)) ⌝ }
     requires { ⌜ from + length (linesTo (lineOf (now kinds) (now figures) (now money)) n []) ≤ length (now out) ⌝ }
-    ensures { λ _. ⌜ Appended (linesTo (lineOf (now (kinds .entry)) (now (figures .entry)) (now (money .entry))) n []) from (now (out .entry)) (now (out .exit)) ⌝ }
+    ensures { λ _. ⌜ Appended (linesTo (lineOf (now (kinds .entry)) (now (figures .entry)) (now (money .entry))) n []) from
+        (now (out .entry)) (now (out .exit)) ⌝ }
 {
     let mut k = from;
     let mut a = 0;
@@ -304,7 +310,9 @@ fn lists_good(kinds: usize, figures: usize, money: usize) -> bool
 
 // The page of an hour, put into a lent buffer.
 pub fn print(r: Summary, kinds: &[u32], figures: &[u32], money: &[i64], out: &mut [u8]) -> Printed
-    ensures { λ p. ⌜ Prints (printVerdict (now (kinds .entry)) (now (figures .entry)) (now (money .entry)) (length (pageOf r (now (kinds .entry)) (now (figures .entry)) (now (money .entry)))) (length (now (out .entry)))) (pageOf r (now (kinds .entry)) (now (figures .entry)) (now (money .entry))) (now (out .entry)) p (now (out .exit)) ⌝ }
+    ensures { λ p. ⌜ Prints (printVerdict (now (kinds .entry)) (now (figures .entry)) (now (money .entry))
+        (length (pageOf r (now (kinds .entry)) (now (figures .entry)) (now (money .entry)))) (length (now (out .entry))))
+        (pageOf r (now (kinds .entry)) (now (figures .entry)) (now (money .entry))) (now (out .entry)) p (now (out .exit)) ⌝ }
 {
     if !lists_good(kinds.len(), figures.len(), money.len()) {
         return Printed::Refused(Refusal {

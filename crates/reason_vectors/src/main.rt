@@ -2,18 +2,8 @@
 // reason, and of a group that shares the remainder and the total. A sheet that settles for a plant and not for a contract is told in a
 // line that no expected answer has.
 // A case is a 32-bit length, the low byte first, and that many bytes.
-use input::Input;
-use libc::STDERR_FILENO;
+use input::cases::Case;
 use libc::STDOUT_FILENO;
-ghost use lib.ListN.{length};
-ghost use Rattle.reason_vectors.specs.Cases.{Holds};
-
-// The next case: a sheet of so many bytes, the end of the input, or an input that ends within a case or cannot be read.
-enum Case {
-    Sheet(usize),
-    End,
-    Cut,
-}
 
 // More cases than these are not looked at.
 const MOST_CASES: u64 = 1000000;
@@ -23,56 +13,6 @@ const SHARES: u32 = 5;
 
 // A number that no plant and no contract of a sheet has.
 const NOBODY: u32 = 4294967295;
-
-// The bytes of a case whose length is known.
-fn read_sheet(buf: &mut [u8], n: usize) -> Case
-    ensures { λ r. ⌜ Holds r (length (now (buf .exit))) ⌝ }
-{
-    if buf.len() < n {
-        return Case::Cut;
-    }
-    let got = input::read_all(&mut buf[..n]);
-    let Input::Bytes(k) = got else {
-        return Case::Cut;
-    };
-    if k < n { Case::Cut } else { Case::Sheet(n) }
-}
-
-fn read_case(buf: &mut [u8]) -> Case
-    ensures { λ r. ⌜ Holds r (length (now (buf .exit))) ⌝ }
-{
-    let mut head = [0u8; 4];
-    let got = input::read_all(&mut head);
-    let Input::Bytes(k) = got else {
-        return Case::Cut;
-    };
-    if k == 0 {
-        return Case::End;
-    }
-    if k < 4 {
-        return Case::Cut;
-    }
-    let row = [
-        head[0],
-        head[1],
-        head[2],
-        head[3],
-        0,
-        0,
-        0,
-        0,
-        0,
-        0,
-        0,
-        0,
-        0,
-        0,
-        0,
-        0,
-    ];
-    let n = rows::row_at(&row, 0).first as usize;
-    read_sheet(buf, n)
-}
 
 fn say(text: &[u8]) {
     io::write_all(STDOUT_FILENO, text);
@@ -155,23 +95,13 @@ fn run_case(number: u64, sheet: &[u8]) {
     print_contracts(sheet, counts[5]);
 }
 
-// What was wrong with the input, if anything.
-fn say_end(case: Case) {
-    if let Case::Cut = case {
-        io::write_all(
-            STDERR_FILENO,
-            b"reason_vectors: the input ends within a case\n",
-        );
-    }
-}
-
 fn main() {
     let mut buf = io::large_buffer();
     let mut number: u64 = 0;
     while number < MOST_CASES {
-        let case = read_case(&mut buf);
+        let case = input::cases::read_case(&mut buf);
         let Case::Sheet(n) = case else {
-            say_end(case);
+            input::cases::complain(case);
             return;
         };
         run_case(number, &buf[..n]);

@@ -13,40 +13,15 @@ use Rattle.sheet.specs.Reading.{readVerdict, readOf, countsOf}
 use Rattle.sheet.specs.declared.Counts.{Counts}
 use Rattle.sheet.specs.declared.Reading.{Reading}
 use Rattle.sheet.proofs.Accepted.{accepted-counts, accepted-few, refused-verdict}
-use Rattle.columns.specs.Columns.{columnsOf, hourOf}
-use Rattle.columns.proofs.Columns.{agents-long, plants-long, contracts-long}
-use Rattle.columns.proofs.Numbers.{Between, read-between, balance-between, cover-between}
+use Rattle.columns.specs.Columns.{hourOf, sheetVerdict}
+use Rattle.columns.proofs.Refusing.{none-fine, room-for, room-enough}
 use Rattle.hour.specs.Sheet.{Sheet}
 use Rattle.hour.specs.Lines.{cellsPerAgent}
 use Rattle.hour.specs.Answer.{Lent, balanceVerdict, coverVerdict, roomVerdict, hourVerdict, summaryOf}
 use Rattle.hour.specs.declared.Summary.{Summary}
-use Rattle.hour.proofs.Verdicts.{room-fine}
 use Rattle.settle.specs.Settled.{verdictOf, Settled}
-use Rattle.reasons.specs.Reasons.{sheetVerdict, whyVerdict}
+use Rattle.reasons.specs.Reasons.{whyVerdict}
 use Rattle.reasons.specs.Parts.{HourSettled}
-
--- ---- a refusal has a number above 0
-above : (lo hi : ℕ) (v : Verdict) → 0 < lo → Between lo hi v → numberOf v ≡ 0 → v ≡ Verdict.Fine
-above lo hi Verdict.Fine l b e = refl
-above lo hi (Verdict.Refused r) l b e = absurd (omega (arith, b .0))
-
-or-none : (v w : Verdict)
-    → (numberOf v ≡ 0 → v ≡ Verdict.Fine)
-    → (numberOf w ≡ 0 → w ≡ Verdict.Fine)
-    → numberOf (orElse v w) ≡ 0
-    → orElse v w ≡ Verdict.Fine
-or-none Verdict.Fine w f g e = g e
-or-none (Verdict.Refused r) w f g e = f e
-
-pub none-fine : (bytes : List ℕ) → numberOf (sheetVerdict bytes) ≡ 0 → sheetVerdict bytes ≡ Verdict.Fine
-unfolding sheetVerdict
-none-fine bytes =
-    let h = hourOf bytes in
-    or-none (readVerdict bytes) (orElse (balanceVerdict h) (orElse (coverVerdict h) Verdict.Fine))
-    (above 1 6 (readVerdict bytes) (omega arith) (read-between bytes))
-    (or-none (balanceVerdict h) (orElse (coverVerdict h) Verdict.Fine)
-    (above 7 9 (balanceVerdict h) (omega arith) (balance-between h))
-    (or-none (coverVerdict h) Verdict.Fine (above 10 13 (coverVerdict h) (omega arith) (cover-between h)) (λ e. refl)))
 
 -- ---- what the summary says of the verdict
 module _ (v : Verdict) (h : Sheet) (r : Summary) (e : r ≡ summaryOf v h) where
@@ -72,34 +47,15 @@ pub summary-fine : (bytes : List ℕ) (h : Sheet) (r : Summary)
     → sheetVerdict bytes ≡ Verdict.Fine
 summary-fine bytes h r e z = none-fine bytes (sym (summary-number (sheetVerdict bytes) h r e) ∙ z)
 
--- ---- with room for all the verdict of a settlement is the sheet's
-pub room-enough : (bytes : List ℕ) (c : Counts) → readOf bytes ≡ Reading.Accepted c → (l : Lent)
-    → cellsPerAgent * mostAgents ≤ length (l .figures) → mostAgents ≤ length (l .money) → mostPlants ≤ length (l .schedule)
-    → mostContracts ≤ length (l .amounts)
-    → verdictOf bytes l ≡ sheetVerdict bytes
-unfolding verdictOf sheetVerdict hourVerdict hourOf
-room-enough bytes c e l f m s a = rw room
-  where
-    room : roomVerdict (columnsOf bytes (countsOf bytes)) l ≡ Verdict.Fine
-    room =
-        let w = accepted-few bytes c e in
-        rw (sym (accepted-counts bytes c e))
-        (room-fine (columnsOf bytes c) l
-        (record {
-          figures = omega (arith, agents-long bytes c, w .agents);
-          money = omega (arith, agents-long bytes c, w .agents);
-          schedule = omega (arith, plants-long bytes c, w .plants);
-          amounts = omega (arith, contracts-long bytes c, w .contracts);
-        }))
-
--- so what it leaves is the hour's
+-- ---- with room for all the verdict of a settlement is the sheet's, so what it leaves is the hour's
 pub settled-hour : (bytes : List ℕ) (c : Counts) → readOf bytes ≡ Reading.Accepted c → (before after : Lent) (r : Summary)
     → cellsPerAgent * mostAgents ≤ length (before .figures) → mostAgents ≤ length (before .money)
     → mostPlants ≤ length (before .schedule) → mostContracts ≤ length (before .amounts)
     → Settled bytes before after r
     → HourSettled bytes (before .schedule) (after .schedule) (before .amounts) (after .amounts) r
+unfolding verdictOf
 settled-hour bytes c e before after r f m s a w =
-    let v = room-enough bytes c e before f m s a in
+    let v = room-enough bytes before (room-for bytes c e before f m s a) in
     record { answer = rw v at (w .answered); schedule = rw v at (w .schedule); amounts = rw v at (w .amounts) }
 
 -- ---- the ways through the verdict on a question

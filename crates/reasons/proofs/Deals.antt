@@ -15,7 +15,8 @@ use Rattle.hour.specs.Sheet.{Sheet, agents, contracts}
 use Rattle.hour.specs.Sound.{Sound}
 use Rattle.hour.specs.Balance.{commercial, demands}
 use Rattle.hour.specs.Lines.{amount}
-use Rattle.reasons.specs.Reasons.{cheaperAt, ContractHolds, contractReasonBy, ContractSays, buyerOf, ownDeals, ownPlace, contractReason}
+use Rattle.reasons.specs.Reasons.{cheaperAt, ContractHolds, contractReasonBy, ContractSays}
+use Rattle.reasons.specs.Reasons.{buyerOf, ownDeals, ownPlace, contractReason}
 use Rattle.reasons.specs.declared.ContractReason.{ContractReason}
 
 module _ (s : Deals) (d i : ℕ) where

@@ -11,14 +11,16 @@ use Rattle.refusals.specs.declared.Verdict.{Verdict}
 use Rattle.refusals.proofs.Fine.{both-fine, fine-left, fine-test}
 use Rattle.sheet.specs.Reading.{readVerdict, readOf, countsOf, reading}
 use Rattle.sheet.specs.declared.Reading.{Reading}
-use Rattle.columns.specs.Columns.{hourOf}
+use Rattle.columns.specs.Columns.{hourOf, sheetVerdict}
 use Rattle.columns.proofs.Columns.{sound}
 use Rattle.hour.specs.Sheet.{plants, contracts}
 use Rattle.hour.specs.Sound.{Sound}
 use Rattle.hour.specs.Balance.{commercial}
 use Rattle.hour.specs.Lines.{scheduled, amount}
 use borrow.Author.Tests.{ltb-true}
-use Rattle.reasons.specs.Reasons.{plantReasonNumber, plantHolds, plantReason, plantCase, ContractHolds, contractReasonBy, contractReason, contractCase, buyerOf, ownDeals, ownPlace, sheetVerdict, whyVerdict, plantTold, plantWhy, contractTold, contractWhy, PlantSays, ContractSays, StandsAhead}
+use Rattle.reasons.specs.Reasons.{plantReasonNumber, plantHolds, plantReason, plantCase, ContractHolds, contractReasonBy}
+use Rattle.reasons.specs.Reasons.{contractReason, contractCase, buyerOf, ownDeals, ownPlace, whyVerdict}
+use Rattle.reasons.specs.Reasons.{plantTold, plantWhy, contractTold, contractWhy, PlantSays, ContractSays, StandsAhead}
 use Rattle.reasons.specs.declared.PlantReason.{PlantReason}
 use Rattle.reasons.specs.declared.PlantCase.{PlantCase}
 use Rattle.reasons.specs.declared.PlantWhy.{PlantWhy}

@@ -15,8 +15,9 @@ use Rattle.sheet.specs.Asking.{plantAt, contractAt}
 use Rattle.sheet.specs.declared.Counts.{Counts}
 use Rattle.sheet.specs.declared.Reading.{Reading}
 use Rattle.sheet.proofs.Accepted.{accepted-counts}
-use Rattle.columns.specs.Columns.{columnsOf, hourOf}
-use Rattle.columns.proofs.Columns.{agents-long, plants-long, contracts-long, must-at, offer-at, available-at, buyer-at, price-at, quantity-at}
+use Rattle.columns.specs.Columns.{columnsOf, hourOf, sheetVerdict}
+use Rattle.columns.proofs.Columns.{agents-long, plants-long, contracts-long, must-at}
+use Rattle.columns.proofs.Columns.{offer-at, available-at, buyer-at, price-at, quantity-at}
 use Rattle.balance.specs.Balances.{weighVerdict, Weighed}
 use Rattle.balance.specs.declared.Balance.{Balance}
 use Rattle.hour.specs.Sheet.{agents, plants, contracts}
@@ -24,7 +25,8 @@ use Rattle.hour.specs.Balance.{commercial}
 use Rattle.hour.specs.Lines.{scheduled, bolsaPrice, amount}
 use Rattle.hour.specs.Answer.{balanceVerdict, coverVerdict}
 use Rattle.hour.specs.declared.Summary.{Summary}
-use Rattle.reasons.specs.Reasons.{plantReasonBy, plantReason, plantCase, contractReason, contractCase, sheetVerdict, plantWhy, contractWhy}
+use Rattle.reasons.specs.Reasons.{plantReasonBy, plantReason, plantCase, contractReason}
+use Rattle.reasons.specs.Reasons.{contractCase, plantWhy, contractWhy}
 use Rattle.reasons.specs.Parts.{HourSettled, reasonIn}
 use Rattle.reasons.specs.declared.PlantReason.{PlantReason}
 use Rattle.reasons.specs.declared.PlantCase.{PlantCase}

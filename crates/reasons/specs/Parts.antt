@@ -15,8 +15,8 @@ use Rattle.hour.specs.Sheet.{plants, contracts}
 use Rattle.hour.specs.Lines.{scheduled, amount}
 use Rattle.hour.specs.Answer.{summaryOf}
 use Rattle.hour.specs.declared.Summary.{Summary}
-use Rattle.columns.specs.Columns.{hourOf}
-use Rattle.reasons.specs.Reasons.{sheetVerdict, conditionalReason, demandedReason}
+use Rattle.columns.specs.Columns.{hourOf, sheetVerdict}
+use Rattle.reasons.specs.Reasons.{conditionalReason, demandedReason}
 use Rattle.reasons.specs.declared.passes.Part.{Part}
 use Rattle.reasons.specs.declared.ContractReason.{ContractReason}
 

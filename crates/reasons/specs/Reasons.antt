@@ -9,15 +9,13 @@ use lib.Dec.{leb, ltb, eqb}
 use Rattle.sums.specs.Lists.{at, total}
 use Rattle.refusals.specs.Refusals.{notThere, refusedUnless, firstOf}
 use Rattle.refusals.specs.declared.Verdict.{Verdict}
-use Rattle.sheet.specs.Reading.{readVerdict}
 use Rattle.share.specs.Share.{shareOf}
 use Rattle.deals.specs.Deals.{Deals, kind, price, quantity, fixed, conditional, demanded, aheadOf, restOf, cheaperOf, groupOf}
 use Rattle.deals.specs.Hour.{ownCount, ownOf}
 use Rattle.hour.specs.Sheet.{Sheet, plants, contracts}
 use Rattle.hour.specs.Balance.{commercial}
 use Rattle.hour.specs.Lines.{scheduled, bolsaPrice, amount}
-use Rattle.hour.specs.Answer.{balanceVerdict, coverVerdict}
-use Rattle.columns.specs.Columns.{hourOf}
+use Rattle.columns.specs.Columns.{hourOf, sheetVerdict}
 use Rattle.reasons.specs.declared.PlantReason.{PlantReason}
 use Rattle.reasons.specs.declared.PlantCase.{PlantCase}
 use Rattle.reasons.specs.declared.PlantWhy.{PlantWhy}
@@ -170,11 +168,7 @@ contractCase s j =
 
 -- ---- asking any bytes
 
--- the refusals of the sheet: 1 to 6 are reading's, 7 to 9 the balance's, then 10 and 13; not 11, since no list is lent
-unfoldable pub sheetVerdict : List ℕ → Verdict
-sheetVerdict bytes = firstOf (readVerdict bytes ∷ balanceVerdict (hourOf bytes) ∷ coverVerdict (hourOf bytes) ∷ [])
-
--- then 12 for number i of n, place the number asked for
+-- the refusals of the sheet, then 12 for number i of n, place the number asked for
 unfoldable pub whyVerdict : List ℕ → (n i : ℕ) → Verdict
 whyVerdict bytes n i = firstOf (sheetVerdict bytes ∷ refusedUnless (ltb i n) notThere i ∷ [])
 

@@ -136,7 +136,8 @@ fn judge_plant(scheduled: u32, must: u32, available: u32) -> PlantReason
 fn settle_hour(bytes: &[u8], c: Counts, schedule: &mut [u32], amounts: &mut [u32]) -> Summary
     requires { ⌜ readOf (now bytes) ≡ Reading.Accepted c ⌝ }
     requires { ⌜ (mostPlants ≤ length (now schedule)) × (mostContracts ≤ length (now amounts)) ⌝ }
-    ensures { λ r. ⌜ HourSettled (now (bytes .entry)) (now (schedule .entry)) (now (schedule .exit)) (now (amounts .entry)) (now (amounts .exit)) r ⌝ }
+    ensures { λ r. ⌜ HourSettled (now (bytes .entry)) (now (schedule .entry)) (now (schedule .exit)) (now (amounts .entry))
+        (now (amounts .exit)) r ⌝ }
 {
     let mut figures = [0u32; Agent::CELLS * Agent::MOST];
     let mut money = [0i64; Agent::MOST];

@@ -7,7 +7,8 @@ use lib.Dec.{leb, eqb}
 use borrow.Author.Tests.{leb-true, eqb-true}
 use Rattle.sums.proofs.Tests.{all-true, or-else}
 use Rattle.rows.specs.Limits.{mostFactor, mostReading, mostOffer, mostAvailable, mostPrice, mostQuantity}
-use Rattle.rows.specs.Rows.{isAgent, carriesLosses, isGenerator, maySell, mayBuy, holdsPlants, agentBlank, boundaryBlank, boundaryGood, plantGood, contractGood}
+use Rattle.rows.specs.Rows.{isAgent, carriesLosses, isGenerator, maySell, mayBuy, holdsPlants}
+use Rattle.rows.specs.Rows.{agentBlank, boundaryBlank, boundaryGood, plantGood, contractGood}
 use Rattle.rows.proofs.ByKind.{metered}
 use Rattle.rows.specs.declared.Words.{Words}
 use Rattle.rows.specs.declared.Boundary.{Boundary}

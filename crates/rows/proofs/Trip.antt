@@ -43,7 +43,9 @@ low-bytes x = omega arith
 high-bytes : (x : ℕ) → x / 256 ^ 2 % 256 + 256 * (x / 256 ^ 3 % 256) ≡ x / 65536 % 65536
 high-bytes x = omega arith
 
-four-bytes : (x : ℕ) → x < 4294967296 → x / 256 ^ 0 % 256 + 256 * (x / 256 ^ 1 % 256) + 65536 * (x / 256 ^ 2 % 256) + 16777216 * (x / 256 ^ 3 % 256) ≡ x
+four-bytes : (x : ℕ)
+    → x < 4294967296
+    → x / 256 ^ 0 % 256 + 256 * (x / 256 ^ 1 % 256) + 65536 * (x / 256 ^ 2 % 256) + 16777216 * (x / 256 ^ 3 % 256) ≡ x
 four-bytes x l = omega (arith, low-bytes x, high-bytes x)
 
 module _ (f : ℕ → Words) (n : ℕ) where

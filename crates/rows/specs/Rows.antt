@@ -2,7 +2,8 @@
 use Prim.Native.Nat.{ℕ, _/_, _%_}
 use mathlib.Core.Bool.{Bool, _&&_, _||_, not}
 use lib.Dec.{leb, eqb}
-use Rattle.rows.specs.Limits.{mostAgents, mostBoundaries, mostPlants, mostContracts, mostFactor, mostReading, mostOffer, mostAvailable, mostPrice, mostQuantity}
+use Rattle.rows.specs.Limits.{mostAgents, mostBoundaries, mostPlants, mostContracts, mostFactor}
+use Rattle.rows.specs.Limits.{mostReading, mostOffer, mostAvailable, mostPrice, mostQuantity}
 use Rattle.rows.specs.declared.Words.{Words}
 use Rattle.rows.specs.declared.Agent.{Agent}
 use Rattle.rows.specs.declared.Boundary.{Boundary}

@@ -3,7 +3,9 @@ ghost use mathlib.Core.Path.{_≡_};
 ghost use Prim.Native.Nat.{_+_, _≤_, _<_};
 ghost use lib.ListN.{length};
 ghost use Rattle.rows.specs.Bytes.{u32At, wordsAt};
-ghost use Rattle.rows.specs.Rows.{agentOf, boundaryOf, plantOf, contractOf, agentBlank, boundaryBlank, carriesLosses, isGenerator, maySell, mayBuy, holdsPlants, isOutside, isAgent, fewRows, agentGood, boundaryGood, plantGood, contractGood};
+ghost use Rattle.rows.specs.Rows.{agentOf, boundaryOf, plantOf, contractOf, agentBlank, boundaryBlank};
+ghost use Rattle.rows.specs.Rows.{carriesLosses, isGenerator, maySell, mayBuy, holdsPlants, isOutside};
+ghost use Rattle.rows.specs.Rows.{isAgent, fewRows, agentGood, boundaryGood, plantGood, contractGood};
 
 // A row's sixteen bytes, as four 32-bit numbers.
 pub struct Words {

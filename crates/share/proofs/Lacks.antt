@@ -18,9 +18,12 @@ use Rattle.sums.proofs.Picks.{pick-le, pick-lt, pick-ge, pick-eq, pick-ne}
 use Rattle.sums.proofs.Keyed.{keyed-none, keyed-step, keyed-most, keyed-absent}
 use Rattle.sums.proofs.Fill.{filled-by}
 use Rattle.crossing.specs.Crossing.{heldBelow, comesBefore, standing, Above, Crossing, Bracket, taken, classOf}
-use Rattle.crossing.proofs.Crossing.{below-zero, below-suc, below-mono, below-gap, below-classes, class-outside, class-inside, above-from, bracket-crossing, bracket-up, bracket-down, taken-below, taken-level, taken-above, taken-is}
+use Rattle.crossing.proofs.Crossing.{below-zero, below-suc, below-mono, below-gap, below-classes, class-outside, class-inside}
+use Rattle.crossing.proofs.Crossing.{above-from, bracket-crossing, bracket-up, bracket-down, taken-below, taken-level, taken-above}
+use Rattle.crossing.proofs.Crossing.{taken-is}
 use Rattle.share.specs.Share.{floorOf, remainderOf, leftOver, goesBefore, rankOf, shareOf}
-use Rattle.share.specs.Lacks.{mostTotal, Sharing, FloorsHeld, lackOf, one, Lesser, NextLack, Narrowed, Noted, Cleared, Classed, Levelled, Closed}
+use Rattle.share.specs.Lacks.{mostTotal, Sharing, FloorsHeld, lackOf, one, Lesser, NextLack}
+use Rattle.share.specs.Lacks.{Narrowed, Noted, Cleared, Classed, Levelled, Closed}
 use Rattle.share.proofs.Proportion.{remainder-lt}
 use Rattle.share.proofs.Laws.{share-is, share-no-total}
 use Rattle.share.proofs.Ranks.{before-larger, before-smaller, before-lower, before-higher}

@@ -10,7 +10,8 @@ ghost use Rattle.sums.specs.Sums.{pick};
 ghost use Rattle.sums.specs.Lists.{at, total, Filled};
 ghost use Rattle.crossing.specs.Crossing.{Bracket, taken};
 ghost use Rattle.share.specs.Share.{mostWeights, leftOver, shareOf, Shared};
-ghost use Rattle.share.specs.Lacks.{mostTotal, Sharing, Floored, FloorsHeld, lackOf, one, Lesser, NextLack, Narrowed, Noted, Cleared, Classed, Levelled, Chosen, Closed};
+ghost use Rattle.share.specs.Lacks.{mostTotal, Sharing, Floored, FloorsHeld, lackOf, one, Lesser, NextLack};
+ghost use Rattle.share.specs.Lacks.{Narrowed, Noted, Cleared, Classed, Levelled, Chosen, Closed};
 
 // More weights than this are refused.
 const MOST_WEIGHTS: usize = 256;
@@ -120,7 +121,8 @@ fn least_from(amount: u32, weights: &[u32], t: u64, out: &[u32], low: u64, high:
 // One group of equal lacks is passed.
 fn pass(amount: u32, weights: &[u32], t: u64, out: &[u32], b: Span) -> Span
     requires { ⌜ FloorsHeld amount (now weights) t (now out) × (b .low < b .high) × (b .high ≤ mostTotal) ⌝ }
-    ensures { λ r. ⌜ Narrowed (lackOf amount (now (weights .entry))) (length (now (weights .entry))) (b .low) (b .high) (b .left) (r .low) (r .high) (r .left) ⌝ }
+    ensures { λ r. ⌜ Narrowed (lackOf amount (now (weights .entry))) (length (now (weights .entry))) (b .low) (b .high) (b .left)
+        (r .low) (r .high) (r .left) ⌝ }
 {
     let m = least_from(amount, weights, t, out, b.low, b.high);
     if b.left <= m.count {
@@ -185,7 +187,8 @@ fn note(counts: &mut [u32], low: u64, s: u32, k: u64)
 // Puts in the shares rounded down, and hands back the kWh left over. While it divides it counts what the weights lack by classes.
 fn floors(amount: u32, weights: &[u32], t: u64, s: u32, out: &mut [u32], counts: &mut [u32]) -> u32
     requires { ⌜ Sharing (now weights) t × (length (now weights) ≤ length (now out)) × (s < 64) × Cleared (now counts) ⌝ }
-    ensures { λ r. ⌜ Floored amount (now (weights .entry)) (now (out .entry)) r (now (out .exit)) × Classed (lackOf amount (now (weights .entry))) (length (now (weights .entry))) 0 (2 ^ s) (now (counts .exit)) ⌝ }
+    ensures { λ r. ⌜ Floored amount (now (weights .entry)) (now (out .entry)) r (now (out .exit))
+        × Classed (lackOf amount (now (weights .entry))) (length (now (weights .entry))) 0 (2 ^ s) (now (counts .exit)) ⌝ }
 {
     let mut left = amount;
     let mut i = 0;
@@ -281,7 +284,8 @@ fn choose(counts: &[u32], s: u32, b: Span) -> Span
 // The span of one class out of 63, by a fresh pass.
 fn narrow(amount: u32, weights: &[u32], t: u64, out: &[u32], b: Span) -> Span
     requires { ⌜ FloorsHeld amount (now weights) t (now out) × (b .low < b .high) × (b .high ≤ mostTotal) ⌝ }
-    ensures { λ r. ⌜ Narrowed (lackOf amount (now (weights .entry))) (length (now (weights .entry))) (b .low) (b .high) (b .left) (r .low) (r .high) (r .left) ⌝ }
+    ensures { λ r. ⌜ Narrowed (lackOf amount (now (weights .entry))) (length (now (weights .entry))) (b .low) (b .high) (b .left)
+        (r .low) (r .high) (r .left) ⌝ }
 {
     let s = shift_for(b.high - b.low, 58);
     let mut counts = [0u32; 64];
@@ -298,7 +302,8 @@ fn lower(x: u64, y: u64) -> u64
 // Where the kWh left over cross the weights. Which step is taken is a matter of speed alone.
 fn crossing(amount: u32, weights: &[u32], t: u64, first: Span, out: &[u32]) -> Span
     requires { ⌜ FloorsHeld amount (now weights) t (now out) × (first .high ≤ mostTotal) ⌝ }
-    ensures { λ r. ⌜ Closed (lackOf amount (now (weights .entry))) (length (now (weights .entry))) (first .low) (first .high) (first .left) (r .low) (r .high) (r .left) ⌝ }
+    ensures { λ r. ⌜ Closed (lackOf amount (now (weights .entry))) (length (now (weights .entry))) (first .low) (first .high)
+        (first .left) (r .low) (r .high) (r .left) ⌝ }
 {
     let mut b = first;
     while b.low < b.high {
@@ -309,7 +314,8 @@ fn crossing(amount: u32, weights: &[u32], t: u64, first: Span, out: &[u32]) -> S
 
 fn step(amount: u32, weights: &[u32], t: u64, out: &[u32], b: Span) -> Span
     requires { ⌜ FloorsHeld amount (now weights) t (now out) × (b .low < b .high) × (b .high ≤ mostTotal) ⌝ }
-    ensures { λ r. ⌜ Narrowed (lackOf amount (now (weights .entry))) (length (now (weights .entry))) (b .low) (b .high) (b .left) (r .low) (r .high) (r .left) ⌝ }
+    ensures { λ r. ⌜ Narrowed (lackOf amount (now (weights .entry))) (length (now (weights .entry))) (b .low) (b .high) (b .left)
+        (r .low) (r .high) (r .left) ⌝ }
 {
     if b.left < 3 {
         return pass(amount, weights, t, out, b);
@@ -344,8 +350,10 @@ fn same(k: u64, x: u64) -> u32
 
 // One kWh each to what lacks less than x, and to the first of those that lack x.
 fn give(amount: u32, weights: &[u32], t: u64, x: u64, left: u32, out: &mut [u32])
-    requires { ⌜ FloorsHeld amount (now weights) t (now out) × Bracket (lackOf amount (now weights)) one (length (now weights)) (leftOver amount (now weights)) x x left ⌝ }
-    ensures { λ _. ⌜ Filled 0 (now (out .entry)) (now (out .exit)) (length (now (weights .entry))) (shareOf amount (now (weights .entry))) ⌝ }
+    requires { ⌜ FloorsHeld amount (now weights) t (now out)
+        × Bracket (lackOf amount (now weights)) one (length (now weights)) (leftOver amount (now weights)) x x left ⌝ }
+    ensures { λ _. ⌜ Filled 0 (now (out .entry)) (now (out .exit)) (length (now (weights .entry)))
+        (shareOf amount (now (weights .entry))) ⌝ }
 {
     let mut rest = left;
     let mut i = 0;
@@ -360,8 +368,11 @@ fn give(amount: u32, weights: &[u32], t: u64, x: u64, left: u32, out: &mut [u32]
 
 // The kWh left over, where the floors stand in `out` already and a first span is known. No copy of the remainders is held.
 fn spread(amount: u32, weights: &[u32], t: u64, first: Span, out: &mut [u32])
-    requires { ⌜ FloorsHeld amount (now weights) t (now out) × (first .high ≤ mostTotal) × Bracket (lackOf amount (now weights)) one (length (now weights)) (leftOver amount (now weights)) (first .low) (first .high) (first .left) ⌝ }
-    ensures { λ _. ⌜ Filled 0 (now (out .entry)) (now (out .exit)) (length (now (weights .entry))) (shareOf amount (now (weights .entry))) ⌝ }
+    requires { ⌜ FloorsHeld amount (now weights) t (now out) × (first .high ≤ mostTotal)
+        × Bracket (lackOf amount (now weights)) one (length (now weights)) (leftOver amount (now weights)) (first .low)
+        (first .high) (first .left) ⌝ }
+    ensures { λ _. ⌜ Filled 0 (now (out .entry)) (now (out .exit)) (length (now (weights .entry)))
+        (shareOf amount (now (weights .entry))) ⌝ }
 {
     let b = crossing(amount, weights, t, first, out);
     give(amount, weights, t, b.low, b.left, out);
@@ -384,7 +395,8 @@ fn first_shift(n: usize, t: u64) -> u32
 // The shares, in a list that has room for them.
 fn fill(amount: u32, weights: &[u32], out: &mut [u32])
     requires { ⌜ (length (now weights) ≤ mostWeights) × (length (now weights) ≤ length (now out)) ⌝ }
-    ensures { λ _. ⌜ Filled 0 (now (out .entry)) (now (out .exit)) (length (now (weights .entry))) (shareOf amount (now (weights .entry))) ⌝ }
+    ensures { λ _. ⌜ Filled 0 (now (out .entry)) (now (out .exit)) (length (now (weights .entry)))
+        (shareOf amount (now (weights .entry))) ⌝ }
 {
     let t = total_of(weights);
     if t == 0 {
@@ -397,7 +409,8 @@ fn fill(amount: u32, weights: &[u32], out: &mut [u32])
 // The shares of a total above 0.
 fn fill_some(amount: u32, weights: &[u32], t: u64, out: &mut [u32])
     requires { ⌜ Sharing (now weights) t × (length (now weights) ≤ length (now out)) ⌝ }
-    ensures { λ _. ⌜ Filled 0 (now (out .entry)) (now (out .exit)) (length (now (weights .entry))) (shareOf amount (now (weights .entry))) ⌝ }
+    ensures { λ _. ⌜ Filled 0 (now (out .entry)) (now (out .exit)) (length (now (weights .entry)))
+        (shareOf amount (now (weights .entry))) ⌝ }
 {
     let s = first_shift(weights.len(), t);
     let mut counts = [0u32; 64];

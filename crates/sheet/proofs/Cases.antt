@@ -5,7 +5,8 @@ use mathlib.Core.Path.{_≡_, refl}
 use mathlib.Core.List.{List, [], _∷_, map, replicate}
 use Rattle.refusals.specs.Refusals.{firstBad, refusal}
 use Rattle.rows.specs.Bytes.{u32At, wordsAt}
-use Rattle.sheet.specs.Reading.{countsOf, distancesGood, layoutGood, kindAt, agentVerdict, boundaryVerdict, plantVerdict, contractVerdict, readVerdict, readOf}
+use Rattle.sheet.specs.Reading.{countsOf, distancesGood, layoutGood, kindAt, agentVerdict}
+use Rattle.sheet.specs.Reading.{boundaryVerdict, plantVerdict, contractVerdict, readVerdict, readOf}
 use Rattle.sheet.specs.Asking.{rowsIn, fields, fieldsAt, askedRow, rowOf}
 use Rattle.sheet.specs.declared.Counts.{Counts}
 use Rattle.sheet.specs.declared.Reading.{Reading}
@@ -71,7 +72,8 @@ pub read-cases : map readOf (replicate 31 0 ∷ replicate 32 0 ∷ hour ∷ marc
     ∷ Reading.Accepted (counts 4 4 3 4)
     ∷ Reading.Refused (refusal 6 1)
     ∷ [])
-unfolding u32At wordsAt countsOf distancesGood layoutGood kindAt agentVerdict boundaryVerdict plantVerdict contractVerdict firstBad readVerdict readOf
+unfolding u32At wordsAt countsOf distancesGood layoutGood kindAt agentVerdict boundaryVerdict plantVerdict contractVerdict firstBad
+    readVerdict readOf
 read-cases = refl
 
 -- a flexible plant must run nothing, an inflexible one at most its availability
@@ -82,7 +84,8 @@ pub must-run-cases : map readOf (plantOnly 0 0 ∷ plantOnly 0 1 ∷ plantOnly 1
     ∷ Reading.Accepted (counts 1 0 1 0)
     ∷ Reading.Refused (refusal 5 0)
     ∷ [])
-unfolding u32At wordsAt countsOf distancesGood layoutGood kindAt agentVerdict boundaryVerdict plantVerdict contractVerdict firstBad readVerdict readOf
+unfolding u32At wordsAt countsOf distancesGood layoutGood kindAt agentVerdict boundaryVerdict plantVerdict contractVerdict firstBad
+    readVerdict readOf
 must-run-cases = refl
 
 -- the worked hour asked for rows: a bad section is reported before a bad row

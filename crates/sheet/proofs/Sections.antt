@@ -14,7 +14,9 @@ use Rattle.rows.specs.Bytes.{wordsOf, wordsAt}
 use Rattle.rows.specs.Rows.{agentOf}
 use Rattle.sums.proofs.Tests.{and-left, and-right}
 use Rattle.rows.proofs.Stretch.{stretch-length, stretch-row}
-use Rattle.sheet.specs.Reading.{boundaryStart, plantStart, contractStart, trailerStart, sheetLength, longest, lengthGood, countsOf, countsGood, distancesGood, layoutGood, kindAt, agentVerdict, boundaryVerdict, plantVerdict, contractVerdict, readVerdict, reading, readOf}
+use Rattle.sheet.specs.Reading.{boundaryStart, plantStart, contractStart, trailerStart, sheetLength, longest}
+use Rattle.sheet.specs.Reading.{lengthGood, countsOf, countsGood, distancesGood, layoutGood, kindAt, agentVerdict}
+use Rattle.sheet.specs.Reading.{boundaryVerdict, plantVerdict, contractVerdict, readVerdict, reading, readOf}
 use Rattle.sheet.specs.Asking.{rowsIn, rowsBefore, sectionOf, isSection, fieldsAt, askedRow, rowOf, rowIn}
 use Rattle.sheet.specs.Sections.{kindIn, rowGood, toldIn, rowVerdict, sectionVerdict, rowsVerdict}
 use Rattle.sheet.specs.declared.Counts.{Counts}

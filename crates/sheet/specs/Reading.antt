@@ -9,7 +9,8 @@ use Rattle.refusals.specs.Refusals.{badLength, badLayout, badAgent, badBoundary
 use Rattle.refusals.specs.declared.Verdict.{Verdict}
 use Rattle.rows.specs.Limits.{mostAgents, mostBoundaries, mostPlants, mostContracts}
 use Rattle.rows.specs.Bytes.{wordsAt}
-use Rattle.rows.specs.Rows.{agentOf, boundaryOf, plantOf, contractOf, agentBlank, boundaryBlank, fewRows, agentGood, boundaryGood, plantGood, contractGood}
+use Rattle.rows.specs.Rows.{agentOf, boundaryOf, plantOf, contractOf, agentBlank, boundaryBlank}
+use Rattle.rows.specs.Rows.{fewRows, agentGood, boundaryGood, plantGood, contractGood}
 use Rattle.sheet.specs.declared.Counts.{Counts}
 use Rattle.sheet.specs.declared.Reading.{Reading}
 

@@ -3,8 +3,7 @@
 // A case is a 32-bit length, the low byte first, and that many bytes.
 ghost use Prim.Native.Nat.{_≤_, _<_};
 ghost use lib.ListN.{length};
-use input::Input;
-use libc::STDERR_FILENO;
+use input::cases::Case;
 use libc::STDOUT_FILENO;
 use refusals::Refusal;
 use sheet::Counts;
@@ -12,31 +11,8 @@ use sheet::Fields;
 use sheet::Reading;
 use writing::Writing;
 
-// How a buffer was filled: all of it, not at all for the input had ended, in part, or the reading failed.
-enum Got {
-    Full,
-    End,
-    Cut,
-    Failed,
-}
-
-fn how_full(n: usize, wanted: usize) -> Got {
-    if n == wanted {
-        Got::Full
-    } else if n == 0 {
-        Got::End
-    } else {
-        Got::Cut
-    }
-}
-
-// Reads until the buffer is full.
-fn fill(buf: &mut [u8]) -> Got {
-    match input::read_all(buf) {
-        Input::Bytes(n) => how_full(n, buf.len()),
-        Input::Failed => Got::Failed,
-    }
-}
+// More cases than these are not looked at.
+const MOST_CASES: u64 = 1000000;
 
 fn print_number(n: u64) {
     io::write_all(STDOUT_FILENO, b" ");
@@ -197,79 +173,16 @@ fn print_case(case: u64, s: &[u8]) {
     }
 }
 
-// What stopped the program; nothing where the input just ended.
-fn complain(got: Got) {
-    match got {
-        Got::Failed => {
-            io::write_all(STDERR_FILENO, b"sheet_vectors: the input cannot be read\n");
-        }
-        Got::Cut => {
-            io::write_all(
-                STDERR_FILENO,
-                b"sheet_vectors: the input ends within a case\n",
-            );
-        }
-        _ => {}
-    }
-}
-
-// One sheet of n bytes, and whether to go on.
-fn run_sheet(case: u64, n: usize, buf: &mut [u8]) -> bool {
-    if buf.len() < n {
-        io::write_all(
-            STDERR_FILENO,
-            b"sheet_vectors: a case is longer than 16384 bytes\n",
-        );
-        return false;
-    }
-    let got = fill(&mut buf[..n]);
-    if buf.len() < n {
-        return false;
-    }
-    match got {
-        Got::Full => {
-            print_case(case, &buf[..n]);
-            true
-        }
-        Got::End => {
-            complain(Got::Cut);
-            false
-        }
-        _ => {
-            complain(got);
-            false
-        }
-    }
-}
-
-// The length of the next sheet, and the sheet.
-fn run_case(case: u64, head: &mut [u8]) -> bool {
-    if head.len() < 4 {
-        return false;
-    }
-    let got = fill(&mut head[..4]);
-    let w = rows::row_at(head, 0);
-    let mut buf = [0u8; 16384];
-    match got {
-        Got::Full => run_sheet(case, w.first as usize, &mut buf),
-        _ => {
-            complain(got);
-            false
-        }
-    }
-}
-
-fn next(case: u64) -> bool {
-    let mut head = [0u8; 16];
-    run_case(case, &mut head)
-}
-
 fn main() {
-    let mut case: u64 = 0;
-    while case < 1000000 {
-        if !next(case) {
+    let mut buf = io::large_buffer();
+    let mut number: u64 = 0;
+    while number < MOST_CASES {
+        let case = input::cases::read_case(&mut buf);
+        let Case::Sheet(n) = case else {
+            input::cases::complain(case);
             return;
-        }
-        case += 1;
+        };
+        print_case(number, &buf[..n]);
+        number += 1;
     }
 }

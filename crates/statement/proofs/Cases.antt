@@ -52,5 +52,6 @@ cases =
     ∷ []
 
 pub cases-hold : map (λ (c : Case). good (c .deals) (c .demand) (at (c .amounts))) cases ≡ map (λ (c : Case). c .accepted) cases
-unfolding sum peak pick total listTo cheaperOf groupOf leftBy givenAt every below fixedAt takenAt largestAt conditionalGood isNear demandedGood rowGood good
+unfolding sum peak pick total listTo cheaperOf groupOf leftBy givenAt every below fixedAt takenAt largestAt conditionalGood isNear
+    demandedGood rowGood good
 cases-hold = refl

@@ -1,4 +1,5 @@
--- Rows of no kind, quantity and amount change nothing: the decision over all rows, those of others emptied, is that over one's own. Assumes nothing.
+-- Rows of no kind, quantity and amount change nothing: the decision over all rows, those of others emptied, is that over one's own.
+-- Assumes nothing.
 use Prim.Native.Nat.{ℕ, _+_, _-_, _≤_, _<_}
 use native.Mathlib.Omega.{arith}
 use mathlib.Core.Bool.{Bool, true, false, _&&_}

@@ -1,5 +1,5 @@
--- Whole statements of 'One hour in full', as tables: of each set of the five points that fail the first is told; cells past those needed are not
--- looked at; and another rounding of the loss shares is accepted with the lines that follow from it. Assumes nothing.
+-- Whole statements of 'One hour in full', as tables: of each set of the five points that fail the first is told; cells past those
+-- needed are not looked at; and another rounding of the loss shares is accepted with the lines that follow from it. Assumes nothing.
 use Prim.Native.Nat.{ℕ, _+_, _/_, _%_, _^_}
 use mathlib.Core.Bool.{Bool, cond}
 use mathlib.Core.List.{List, [], _∷_, _++_}
@@ -13,14 +13,16 @@ use Rattle.merit.specs.Merit.{hourPrice}
 use Rattle.deals.specs.Deals.{cheaperOf, groupOf}
 use Rattle.deals.specs.Hour.{ownTo, ownOf}
 use Rattle.hour.specs.Sheet.{retails, outside}
-use Rattle.hour.specs.Balance.{referred, rounded, imported, exported, consumption, consumed, ownImport, delivered, entering, leaving, losses, injected, smallExports}
+use Rattle.hour.specs.Balance.{referred, rounded, imported, exported, consumption, consumed, ownImport}
+use Rattle.hour.specs.Balance.{delivered, entering, leaving, losses, injected, smallExports}
 use Rattle.hour.specs.Lines.{moneyOf}
 use Rattle.hour.specs.Answer.{Lent}
 use Rattle.hour.proofs.Cases.{wholeHour}
 use Rattle.statement.specs.Follows.{leftBy, givenAt}
 use Rattle.statement.specs.Decide.{every, below, fixedAt, takenAt, largestAt, conditionalGood, isNear, demandedGood, rowGood, good}
 use Rattle.statement.specs.Hour.{statedOf, hourGood}
-use Rattle.statement.specs.Tests.{shareGood, sharesGood, dearest, scheduleGood, priceGood, amountsGood, lineGood, linesGood, pointsVerdict}
+use Rattle.statement.specs.Tests.{shareGood, sharesGood, dearest, scheduleGood, priceGood}
+use Rattle.statement.specs.Tests.{amountsGood, lineGood, linesGood, pointsVerdict}
 
 -- ---- the hour's own statement with faults: n has a bit a point, 21 the lowest
 abbrev fails : (n k : ℕ) → Bool
@@ -60,8 +62,10 @@ due n =
     0))))
 
 pub first-told : listTo (λ n. numberOf (pointsVerdict wholeHour (priceStated n) (stated n))) 32 ≡ listTo due 32
-unfolding sum peak pick keyed total listTo hourPrice cheaperOf groupOf ownTo ownOf retails referred rounded imported exported delivered consumption
-    consumed ownImport entering leaving losses outside injected smallExports moneyOf leftBy givenAt every below fixedAt takenAt largestAt conditionalGood
+unfolding sum peak pick keyed total listTo hourPrice cheaperOf groupOf ownTo ownOf retails referred rounded imported exported
+    delivered consumption
+    consumed ownImport entering leaving losses outside injected smallExports moneyOf leftBy givenAt every below fixedAt takenAt largestAt
+    conditionalGood
     isNear demandedGood rowGood good statedOf hourGood shareGood sharesGood dearest scheduleGood priceGood amountsGood lineGood
     linesGood pointsVerdict
 first-told = refl
@@ -90,8 +94,10 @@ otherRounding =
     }
 
 pub accepted : (numberOf (pointsVerdict wholeHour 8000 longer) ≡ 0) × (numberOf (pointsVerdict wholeHour 8000 otherRounding) ≡ 0)
-unfolding sum peak pick keyed total listTo hourPrice cheaperOf groupOf ownTo ownOf retails referred rounded imported exported delivered consumption
-    consumed ownImport entering leaving losses outside injected smallExports moneyOf leftBy givenAt every below fixedAt takenAt largestAt conditionalGood
+unfolding sum peak pick keyed total listTo hourPrice cheaperOf groupOf ownTo ownOf retails referred rounded imported exported
+    delivered consumption
+    consumed ownImport entering leaving losses outside injected smallExports moneyOf leftBy givenAt every below fixedAt takenAt largestAt
+    conditionalGood
     isNear demandedGood rowGood good statedOf hourGood shareGood sharesGood dearest scheduleGood priceGood amountsGood lineGood
     linesGood pointsVerdict
 accepted = (refl, refl)

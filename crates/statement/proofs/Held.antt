@@ -11,7 +11,8 @@ use Rattle.merit.specs.Merit.{Possible, cost}
 use Rattle.merit.proofs.LeastCost.{merit-least}
 use Rattle.hour.specs.Sheet.{Sheet, agents, plants, retails}
 use Rattle.hour.specs.Sound.{Sound}
-use Rattle.hour.specs.Balance.{consumption, ownImport, losses, lossShare, commercial, demandBy, hourDemand, smallExports, dispatchDemandBy, dispatchDemand}
+use Rattle.hour.specs.Balance.{consumption, ownImport, losses, lossShare, commercial, demandBy}
+use Rattle.hour.specs.Balance.{hourDemand, smallExports, dispatchDemandBy, dispatchDemand}
 use Rattle.hour.specs.Lines.{boughtOf, soldOf, moneyOf}
 use Rattle.hour.specs.Signed.{signedSum}
 use Rattle.hour.specs.Answer.{Lent, shareIn, ownIn, contractedIn, boughtIn, soldIn, moneyIn, scheduleIn}

@@ -1,4 +1,5 @@
--- Our own amounts follow document 01 as it is read in P6, and so pass: the house order is one of the orders of equal prices. Assumes nothing.
+-- Our own amounts follow document 01 as it is read in P6, and so pass: the house order is one of the orders of equal prices.
+-- Assumes nothing.
 use Prim.Native.Nat.{ℕ, _+_, _-_, _*_, _≤_, _<_, min}
 use native.Mathlib.Omega.{arith}
 use mathlib.Core.Bool.{Bool, true, false, _&&_, _||_}
@@ -15,7 +16,8 @@ use Rattle.sums.proofs.Tests.{and-left}
 use Rattle.sums.proofs.Cut.{cut}
 use Rattle.share.specs.Share.{shareOf}
 use Rattle.share.proofs.Laws.{share-near}
-use Rattle.deals.specs.Deals.{Deals, count, kind, price, quantity, conditional, demanded, stands, aheadOf, firmAt, restOf, cheaperOf, groupOf, demandedAt, amountAt, amountsOf}
+use Rattle.deals.specs.Deals.{Deals, count, kind, price, quantity, conditional, demanded, stands, aheadOf}
+use Rattle.deals.specs.Deals.{firmAt, restOf, cheaperOf, groupOf, demandedAt, amountAt, amountsOf}
 use Rattle.deals.proofs.Firm.{firm-fixed, firm-needed, firm-covered, firm-none}
 use Rattle.deals.proofs.Demanded.{group-at, demanded-full, demanded-shared, demanded-dearer, amount-demanded, amount-firm}
 use Rattle.deals.proofs.Amounts.{takes-rest}

@@ -25,8 +25,10 @@ use Rattle.hour.specs.Lines.{ownBy, contractedBy, boughtOf, soldOf, moneyOf}
 use Rattle.hour.specs.Answer.{Lent, shareIn, ownIn, importIn, contractedIn, boughtIn, soldIn, moneyIn, scheduleIn}
 use Rattle.statement.specs.Follows.{Near}
 use Rattle.statement.specs.Decide.{every}
-use Rattle.statement.specs.Points.{demandIn, least, basisIn, SharesFollow, ScheduleFollows, PriceFollows, AmountsFollow, LineFollows, Holds}
-use Rattle.statement.specs.Tests.{shareTest, shareGood, sharesGood, withinTest, orderTest, dearest, scheduleGood, priceGood, amountsGood, sameMoney, lineGood, linesGood, pointsVerdict}
+use Rattle.statement.specs.Points.{demandIn, least, basisIn, SharesFollow, ScheduleFollows}
+use Rattle.statement.specs.Points.{PriceFollows, AmountsFollow, LineFollows, Holds}
+use Rattle.statement.specs.Tests.{shareTest, shareGood, sharesGood, withinTest, orderTest, dearest, scheduleGood}
+use Rattle.statement.specs.Tests.{priceGood, amountsGood, sameMoney, lineGood, linesGood, pointsVerdict}
 use Rattle.statement.proofs.Every.{every-holds, every-from, near-told, near-tells}
 use Rattle.statement.proofs.Hours.{hour-exact}
 

@@ -15,7 +15,8 @@ use Rattle.merit.proofs.LeastCost.{possible-eq}
 use Rattle.merit.proofs.MustRun.{ideal-merit}
 use Rattle.hour.specs.Sheet.{Sheet, agents, plants, contracts, retails, outside}
 use Rattle.hour.specs.Sound.{Sound}
-use Rattle.hour.specs.Balance.{consumption, consumed, losses, consumptions, lossShare, commercial, demands, injected, smallExports, dispatchDemandBy, dispatchDemand}
+use Rattle.hour.specs.Balance.{consumption, consumed, losses, consumptions, lossShare, commercial}
+use Rattle.hour.specs.Balance.{demands, injected, smallExports, dispatchDemandBy, dispatchDemand}
 use Rattle.hour.specs.Lines.{scheduled, bolsaPrice, amount, ownBy, contractedBy, own, contracted, bought, sold, money, moneyOf, figure}
 use Rattle.hour.specs.Answer.{Lent, coverVerdict, shareIn, scheduleIn, amountIn, moneyIn}
 use Rattle.hour.proofs.Verdicts.{Balanced}
@@ -23,7 +24,8 @@ use Rattle.hour.proofs.Demand.{weight-at, weights-total, generator-share, loss-
 use Rattle.hour.proofs.Balance.{schedule-possible}
 use Rattle.hour.proofs.Cells.{share-told, own-told, import-told, contracted-told, bought-told, sold-told}
 use Rattle.statement.specs.Follows.{Near}
-use Rattle.statement.specs.Points.{demandIn, least, basisIn, SharesFollow, ScheduleFollows, PriceFollows, AmountsFollow, LineFollows, Holds}
+use Rattle.statement.specs.Points.{demandIn, least, basisIn, SharesFollow, ScheduleFollows}
+use Rattle.statement.specs.Points.{PriceFollows, AmountsFollow, LineFollows, Holds}
 use Rattle.statement.proofs.Hours.{hour-settled}
 
 -- the lists hold what the definitions say, in the cells that the counts ask for

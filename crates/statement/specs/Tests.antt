@@ -28,7 +28,8 @@ shareGood s l a = shareTest (retails s a) (losses s) (consumption s a) (consumed
 unfoldable pub sharesGood : Sheet → Lent → Bool
 sharesGood s l = every (agents s) (shareGood s l) && eqb (sum (agents s) (shareIn l)) (losses s)
 
--- ---- 22. each plant within its bounds, all together what dispatch has to meet, and where a plant has energy left no dearer one is above its must-run
+-- ---- 22. each plant within its bounds, all together what dispatch has to meet, and where a plant has energy left no dearer one is
+-- above its must-run
 abbrev pub withinTest : (least available q : ℕ) → Bool
 withinTest m a q = leb m q && leb q a
 

@@ -2,20 +2,15 @@
 // the answer.
 // A statement is a length and a sheet of that many bytes, a price, and figures, money, schedule and amounts, each a count and that many
 // cells. Numbers have 32 bits, the low byte first; a cell of money has 64.
-use input::Input;
+use input::cases::Case;
+use input::cases::Next;
 use libc::STDERR_FILENO;
 use libc::STDOUT_FILENO;
 ghost use Prim.Native.Nat.{_<_, _+_};
 ghost use lib.ListN.{length};
-ghost use Rattle.statement_vectors.specs.Pieces.{Within};
+ghost use Rattle.statement_vectors.specs.Pieces.{GotWithin};
 
-// The next number, or none: the input ends, or cannot be read.
-enum Next {
-    Number(u32),
-    End,
-}
-
-// How many cells of a list, or bytes of a sheet, were read, or that the input ended within them or they are too many.
+// How many cells of a list were read, or that the input ended within them or they are too many.
 enum Got {
     Cells(usize),
     Cut,
@@ -24,58 +19,10 @@ enum Got {
 // More statements than these are not looked at.
 const MOST_STATEMENTS: u64 = 1000000;
 
-fn next_number() -> Next {
-    let mut head = [0u8; 4];
-    let got = input::read_all(&mut head);
-    let Input::Bytes(k) = got else {
-        return Next::End;
-    };
-    if k < 4 {
-        return Next::End;
-    }
-    let row = [
-        head[0],
-        head[1],
-        head[2],
-        head[3],
-        0,
-        0,
-        0,
-        0,
-        0,
-        0,
-        0,
-        0,
-        0,
-        0,
-        0,
-        0,
-    ];
-    Next::Number(rows::row_at(&row, 0).first)
-}
-
-fn read_sheet(buf: &mut [u8]) -> Got
-    ensures { λ r. ⌜ Within r (length (now (buf .exit))) ⌝ }
-{
-    let head = next_number();
-    let Next::Number(size) = head else {
-        return Got::Cut;
-    };
-    let n = size as usize;
-    if buf.len() < n {
-        return Got::Cut;
-    }
-    let got = input::read_all(&mut buf[..n]);
-    let Input::Bytes(k) = got else {
-        return Got::Cut;
-    };
-    if k < n { Got::Cut } else { Got::Cells(n) }
-}
-
 fn read_list(out: &mut [u32]) -> Got
-    ensures { λ r. ⌜ Within r (length (now (out .exit))) ⌝ }
+    ensures { λ r. ⌜ GotWithin r (length (now (out .exit))) ⌝ }
 {
-    let head = next_number();
+    let head = input::cases::next_number();
     let Next::Number(count) = head else {
         return Got::Cut;
     };
@@ -85,7 +32,7 @@ fn read_list(out: &mut [u32]) -> Got
     }
     let mut i = 0;
     while i < n {
-        let piece = next_number();
+        let piece = input::cases::next_number();
         let Next::Number(x) = piece else {
             return Got::Cut;
         };
@@ -115,9 +62,9 @@ fn signed(low: u32, high: u32) -> i64 {
 }
 
 fn read_money(out: &mut [i64]) -> Got
-    ensures { λ r. ⌜ Within r (length (now (out .exit))) ⌝ }
+    ensures { λ r. ⌜ GotWithin r (length (now (out .exit))) ⌝ }
 {
-    let head = next_number();
+    let head = input::cases::next_number();
     let Next::Number(count) = head else {
         return Got::Cut;
     };
@@ -127,11 +74,11 @@ fn read_money(out: &mut [i64]) -> Got
     }
     let mut i = 0;
     while i < n {
-        let first = next_number();
+        let first = input::cases::next_number();
         let Next::Number(low) = first else {
             return Got::Cut;
         };
-        let second = next_number();
+        let second = input::cases::next_number();
         let Next::Number(high) = second else {
             return Got::Cut;
         };
@@ -158,7 +105,7 @@ fn run_statement(number: u64, sheet: &[u8]) -> bool {
     let mut money = [0i64; 1024];
     let mut schedule = [0u32; 1024];
     let mut amounts = [0u32; 1024];
-    let head = next_number();
+    let head = input::cases::next_number();
     let Next::Number(price) = head else {
         return false;
     };
@@ -196,8 +143,8 @@ fn main() {
     let mut buf = io::large_buffer();
     let mut number: u64 = 0;
     while number < MOST_STATEMENTS {
-        let sheet = read_sheet(&mut buf);
-        let Got::Cells(n) = sheet else {
+        let sheet = input::cases::read_case(&mut buf);
+        let Case::Sheet(n) = sheet else {
             return;
         };
         let whole = run_statement(number, &buf[..n]);

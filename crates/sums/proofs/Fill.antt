@@ -14,7 +14,11 @@ module _ {A : Type 0} (d : A) where
   filled-none l f = record { done = λ k h. absurd (omega arith); kept = λ k h. refl; long = refl }
 
   -- one store more
-  pub filled-more : (l₀ l : List A) (n : ℕ) (v : A) (f : ℕ → A) → n < length l → v ≡ f n → Filled d l₀ l n f → Filled d l₀ (set l n v) (n + 1) f
+  pub filled-more : (l₀ l : List A) (n : ℕ) (v : A) (f : ℕ → A)
+      → n < length l
+      → v ≡ f n
+      → Filled d l₀ l n f
+      → Filled d l₀ (set l n v) (n + 1) f
   filled-more l₀ l n v f h e r =
       record {
         done = λ k m. go k m (decLt k n);

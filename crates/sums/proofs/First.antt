@@ -26,7 +26,12 @@ unfolding first stop
 first-below zero k t l = absurd (omega arith)
 first-below (suc n) k t l = go (t 0) refl k l (λ j m. first-below n j (λ i. t (suc i)) m)
   where
-    go : (b : Bool) → t 0 ≡ b → (k : ℕ) → k < stop b (first n (λ i. t (suc i))) → ((j : ℕ) → j < first n (λ i. t (suc i)) → t (suc j) ≡ false) → t k ≡ false
+    go : (b : Bool)
+        → t 0 ≡ b
+        → (k : ℕ)
+        → k < stop b (first n (λ i. t (suc i)))
+        → ((j : ℕ) → j < first n (λ i. t (suc i)) → t (suc j) ≡ false)
+        → t k ≡ false
     go true e k m r = absurd (omega arith)
     go false e zero m r = e
     go false e (suc j) m r = r j (omega arith)
@@ -37,7 +42,11 @@ unfolding first stop
 first-holds zero t l = absurd (omega arith)
 first-holds (suc n) t l = go (t 0) refl l (λ m. first-holds n (λ k. t (suc k)) m)
   where
-    go : (b : Bool) → t 0 ≡ b → stop b (first n (λ k. t (suc k))) < suc n → (first n (λ k. t (suc k)) < n → t (suc (first n (λ k. t (suc k)))) ≡ true) → t (stop b (first n (λ k. t (suc k)))) ≡ true
+    go : (b : Bool)
+        → t 0 ≡ b
+        → stop b (first n (λ k. t (suc k))) < suc n
+        → (first n (λ k. t (suc k)) < n → t (suc (first n (λ k. t (suc k)))) ≡ true)
+        → t (stop b (first n (λ k. t (suc k)))) ≡ true
     go true e m r = e
     go false e m r = r (omega arith)
 

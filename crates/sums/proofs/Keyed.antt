@@ -51,18 +51,23 @@ module _ (key v : ℕ → ℕ) where
       ∙ sum-eq m (λ j. sum n (λ k. pick (eqb (key j) k) (v j))) v (λ j l. sum-one n (key j) (v j) (h j l))
 
 -- a sum over the rows of the key k, each by its place among them
-pub keyed-places : (key : ℕ → ℕ) (k : ℕ) (g : ℕ → ℕ) (n : ℕ) → sum n (λ j. pick (eqb (key j) k) (g (keyed key (λ _. 1) j k))) ≡ sum (keyed key (λ _. 1) n k) g
+pub keyed-places : (key : ℕ → ℕ) (k : ℕ) (g : ℕ → ℕ) (n : ℕ)
+    → sum n (λ j. pick (eqb (key j) k) (g (keyed key (λ _. 1) j k))) ≡ sum (keyed key (λ _. 1) n k) g
 unfolding keyed sum pick
 keyed-places key k g zero = refl
 keyed-places key k g (suc n) = go (eqb (key n) k) (keyed-places key k g n)
   where
     go : (t : Bool) → sum n (λ j. pick (eqb (key j) k) (g (keyed key (λ _. 1) j k))) ≡ sum (keyed key (λ _. 1) n k) g
-        → sum n (λ j. pick (eqb (key j) k) (g (keyed key (λ _. 1) j k))) + pick t (g (keyed key (λ _. 1) n k)) ≡ sum (keyed key (λ _. 1) n k + pick t 1) g
+        → sum n (λ j. pick (eqb (key j) k) (g (keyed key (λ _. 1) j k))) + pick t (g (keyed key (λ _. 1) n k))
+        ≡ sum (keyed key (λ _. 1) n k + pick t 1) g
     go true h = rw (sum-step (keyed key (λ _. 1) n k) g) (omega arith)
     go false h = let e : keyed key (λ _. 1) n k + 0 ≡ keyed key (λ _. 1) n k = omega arith in rw e (omega arith)
 
 -- equal keys and values
-pub keyed-eq : (key key′ v w : ℕ → ℕ) (m k : ℕ) → ((j : ℕ) → j < m → key j ≡ key′ j) → ((j : ℕ) → j < m → v j ≡ w j) → keyed key v m k ≡ keyed key′ w m k
+pub keyed-eq : (key key′ v w : ℕ → ℕ) (m k : ℕ)
+    → ((j : ℕ) → j < m → key j ≡ key′ j)
+    → ((j : ℕ) → j < m → v j ≡ w j)
+    → keyed key v m k ≡ keyed key′ w m k
 unfolding keyed
 keyed-eq key key′ v w m k g h =
     sum-eq m (λ j. pick (eqb (key j) k) (v j)) (λ j. pick (eqb (key′ j) k) (w j))

@@ -90,7 +90,9 @@ unfolding sum
 sum-cut zero i f h = let e : i ≡ 0 = omega arith in rw e
 sum-cut (suc n) i f h = go (decLt n i) (λ m. sum-cut n i f m)
   where
-    go : Dec (n < i) → (i ≤ n → sum n (λ j. pick (ltb j i) (f j)) ≡ sum i f) → sum n (λ j. pick (ltb j i) (f j)) + pick (ltb n i) (f n) ≡ sum i f
+    go : Dec (n < i)
+        → (i ≤ n → sum n (λ j. pick (ltb j i) (f j)) ≡ sum i f)
+        → sum n (λ j. pick (ltb j i) (f j)) + pick (ltb n i) (f n) ≡ sum i f
     go (no m) k = omega (arith, k (omega arith), pick-ge n i (f n) (omega arith))
     go (yes m) k =
         let e : i ≡ suc n = omega arith in

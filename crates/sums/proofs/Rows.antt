@@ -1,7 +1,8 @@
 -- A list of m rows of w numbers each. Assumes nothing.
 use Prim.Native.Nat.{ℕ, zero, suc, _+_, _*_, _/_, _%_, _<_, _≤_}
 use native.Mathlib.Omega.{arith}
-use native.Mathlib.Nat.{mod-lt, mod-eq-of-lt, div-eq-of-lt, div-add-mod, mul-add-div, mul-add-mod-self-left, mul-le-mul-left, lt-of-mul-lt-mul-left}
+use native.Mathlib.Nat.{mod-lt, mod-eq-of-lt, div-eq-of-lt, div-add-mod, mul-add-div}
+use native.Mathlib.Nat.{mul-add-mod-self-left, mul-le-mul-left, lt-of-mul-lt-mul-left}
 use mathlib.Core.Path.{_≡_, ap, sym, _∙_}
 use mathlib.Core.List.{List}
 use lib.ListN.{length}

@@ -16,7 +16,8 @@ use Rattle.sheet.specs.Asking.{rowsIn}
 use Rattle.sheet.proofs.Accepted.{Few, good-few}
 use Rattle.refusals.proofs.Fine.{fine-parts, parts-fine, fine-test, each-fine, all-fine}
 use Rattle.writing.specs.Numbers.{Numbers, countsIn, agentIn, boundaryIn, plantIn, contractIn}
-use Rattle.writing.specs.Judged.{listsGood, agentListed, boundaryListed, plantListed, contractListed, rowListed, sectionListed, writeChecks, writeVerdict}
+use Rattle.writing.specs.Judged.{listsGood, agentListed, boundaryListed, plantListed, contractListed}
+use Rattle.writing.specs.Judged.{rowListed, sectionListed, writeChecks, writeVerdict}
 
 -- every test of writing holds but for the room
 pub record Good (n : Numbers) : Type 0 where

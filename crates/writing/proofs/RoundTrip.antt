@@ -53,7 +53,8 @@ there n room e =
       numbers = sym (same-numbers (sheetOf n) (countsIn n) n (there-same n g));
     }
 
--- BACK. The numbers of an accepted sheet are taken by writing where there is room for the sheet, and their sheet is that sheet, byte for byte.
+-- BACK. The numbers of an accepted sheet are taken by writing where there is room for the sheet, and their sheet is that sheet,
+-- byte for byte.
 pub record Again (s : List ℕ) (c : Counts) : Type 0 where
   pub counts : countsIn (numbersOf s c) ≡ c
   pub taken : (room : ℕ) → length s ≤ room → writeVerdict (numbersOf s c) room ≡ Verdict.Fine

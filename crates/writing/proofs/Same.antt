@@ -16,7 +16,8 @@ use Rattle.sheet.specs.Reading.{kindAt}
 use Rattle.sheet.specs.Asking.{agentAt, boundaryAt, plantAt, contractAt}
 use Rattle.sheet.specs.declared.Counts.{Counts}
 use Rattle.sheet.proofs.Accepted.{kind-of, no-kind}
-use Rattle.writing.specs.Numbers.{Numbers, countsIn, agentIn, boundaryIn, plantIn, contractIn, boundaryNumber, plantNumber, contractNumber, numbersOf}
+use Rattle.writing.specs.Numbers.{Numbers, countsIn, agentIn, boundaryIn, plantIn, contractIn}
+use Rattle.writing.specs.Numbers.{boundaryNumber, plantNumber, contractNumber, numbersOf}
 use Rattle.sums.proofs.Rows.{rows-at, rows-are}
 
 pub record Same (s : List ℕ) (c : Counts) (n : Numbers) : Type 0 where

@@ -17,7 +17,8 @@ use Rattle.sheet.specs.declared.Counts.{Counts}
 use Rattle.sheet.proofs.Accepted.{Whole, Few}
 use Rattle.writing.specs.Numbers.{Numbers, countsIn, agentIn, boundaryIn, plantIn, contractIn}
 use Rattle.writing.specs.Words.{agentWords, boundaryWords, plantWords, contractWords, trailerWords, sheetRow, sheetOf}
-use Rattle.writing.proofs.Rows.{agent-narrow, boundary-narrow, plant-narrow, contract-narrow, boundary-there, plant-there, contract-there}
+use Rattle.writing.proofs.Rows.{agent-narrow, boundary-narrow, plant-narrow, contract-narrow}
+use Rattle.writing.proofs.Rows.{boundary-there, plant-there, contract-there}
 use Rattle.writing.proofs.Good.{Good, good-rows, lists-few, listed-there}
 use Rattle.rows.proofs.ByKind.{agent-known, holder-known, seller-known, buyer-known}
 use Rattle.writing.proofs.Same.{Same, same-boundary, same-plant, same-contract}

@@ -7,7 +7,8 @@ use mathlib.Core.List.{List, [], _∷_}
 use lib.ListN.{length}
 use lib.Dec.{leb, eqb}
 use Rattle.sums.specs.Lists.{at, Filled}
-use Rattle.refusals.specs.Refusals.{badLayout, badAgent, badBoundary, badPlant, badContract, noRoom, refusedUnless, firstOf, firstBad, cells}
+use Rattle.refusals.specs.Refusals.{badLayout, badAgent, badBoundary, badPlant, badContract}
+use Rattle.refusals.specs.Refusals.{noRoom, refusedUnless, firstOf, firstBad, cells}
 use Rattle.refusals.specs.declared.Verdict.{Verdict}
 use Rattle.rows.specs.Bytes.{byteOf}
 use Rattle.rows.specs.Rows.{agentGood, boundaryGood, plantGood, contractGood}

@@ -6,7 +6,8 @@ ghost use lib.ListN.{length};
 ghost use Rattle.refusals.specs.Refusals.{refusedUnless, orElse};
 ghost use Rattle.sheet.specs.Asking.{rowsIn};
 ghost use Rattle.writing.specs.Numbers.{numbers, countsIn};
-ghost use Rattle.writing.specs.Judged.{listsGood, agentListed, boundaryListed, plantListed, contractListed, rowListed, sectionListed, writeVerdict};
+ghost use Rattle.writing.specs.Judged.{listsGood, agentListed, boundaryListed, plantListed};
+ghost use Rattle.writing.specs.Judged.{contractListed, rowListed, sectionListed, writeVerdict};
 use super::lists;
 use refusals::Refusal;
 use refusals::Verdict;
@@ -17,7 +18,8 @@ use rows::Plant;
 
 // Refusal 2 is given where this is false.
 fn lists_good(agents: &[u32], boundaries: &[u32], plants: &[u32], contracts: &[u32]) -> bool
-    ensures { λ r. ⌜ r ≡ listsGood (numbers (now (agents .entry)) (now (boundaries .entry)) (now (plants .entry)) (now (contracts .entry))) ⌝ }
+    ensures { λ r. ⌜ r ≡ listsGood
+        (numbers (now (agents .entry)) (now (boundaries .entry)) (now (plants .entry)) (now (contracts .entry))) ⌝ }
 {
     rows::few(
         agents.len(),
@@ -97,7 +99,8 @@ fn row_listed(
     i: usize,
 ) -> Verdict
     requires { ⌜ (i < rowsIn (countsIn (numbers (now agents) (now boundaries) (now plants) (now contracts))) section) × (i < 4294967296) ⌝ }
-    ensures { λ r. ⌜ r ≡ rowListed (numbers (now (agents .entry)) (now (boundaries .entry)) (now (plants .entry)) (now (contracts .entry))) section i ⌝ }
+    ensures { λ r. ⌜ r ≡ rowListed
+        (numbers (now (agents .entry)) (now (boundaries .entry)) (now (plants .entry)) (now (contracts .entry))) section i ⌝ }
 {
     match section {
         1 => agent_listed(agents, i),
@@ -117,8 +120,10 @@ fn section_listed(
     section: u32,
     n: usize,
 ) -> Verdict
-    requires { ⌜ (listsGood (numbers (now agents) (now boundaries) (now plants) (now contracts)) ≡ true) × (n ≡ rowsIn (countsIn (numbers (now agents) (now boundaries) (now plants) (now contracts))) section) ⌝ }
-    ensures { λ r. ⌜ r ≡ sectionListed (numbers (now (agents .entry)) (now (boundaries .entry)) (now (plants .entry)) (now (contracts .entry))) section ⌝ }
+    requires { ⌜ (listsGood (numbers (now agents) (now boundaries) (now plants) (now contracts)) ≡ true)
+        × (n ≡ rowsIn (countsIn (numbers (now agents) (now boundaries) (now plants) (now contracts))) section) ⌝ }
+    ensures { λ r. ⌜ r ≡ sectionListed
+        (numbers (now (agents .entry)) (now (boundaries .entry)) (now (plants .entry)) (now (contracts .entry))) section ⌝ }
 {
     for i in 0..n {
         let v = row_listed(agents, boundaries, plants, contracts, section, i);
@@ -147,7 +152,8 @@ pub(crate) fn write_verdict(
     contracts: &[u32],
     room: usize,
 ) -> Verdict
-    ensures { λ r. ⌜ r ≡ writeVerdict (numbers (now (agents .entry)) (now (boundaries .entry)) (now (plants .entry)) (now (contracts .entry))) room ⌝ }
+    ensures { λ r. ⌜ r ≡ writeVerdict
+        (numbers (now (agents .entry)) (now (boundaries .entry)) (now (plants .entry)) (now (contracts .entry))) room ⌝ }
 {
     if !lists_good(agents, boundaries, plants, contracts) {
         return refusals::refuse(Refusal::LAYOUT, 0);

@@ -22,7 +22,9 @@ pub fn write(
     contracts: &[u32],
     out: &mut [u8],
 ) -> Writing
-    ensures { λ r. ⌜ Written (numbers (now (agents .entry)) (now (boundaries .entry)) (now (plants .entry)) (now (contracts .entry))) (now (out .entry)) r (now (out .exit)) ⌝ }
+    ensures { λ r. ⌜ Written
+        (numbers (now (agents .entry)) (now (boundaries .entry)) (now (plants .entry)) (now (contracts .entry)))
+        (now (out .entry)) r (now (out .exit)) ⌝ }
 {
     let v = judge::write_verdict(agents, boundaries, plants, contracts, out.len());
     let Verdict::Refused(why) = v else {

@@ -18,7 +18,8 @@ pub(crate) fn counts_in(
     plants: &[u32],
     contracts: &[u32],
 ) -> Counts
-    ensures { λ r. ⌜ r ≡ countsIn (numbers (now (agents .entry)) (now (boundaries .entry)) (now (plants .entry)) (now (contracts .entry))) ⌝ }
+    ensures { λ r. ⌜ r ≡ countsIn
+        (numbers (now (agents .entry)) (now (boundaries .entry)) (now (plants .entry)) (now (contracts .entry))) ⌝ }
 {
     Counts {
         agents: agents.len(),

@@ -104,7 +104,8 @@ fn row_words(
     r: usize,
 ) -> Words
     requires { ⌜ trailerStart (countsIn (numbers (now agents) (now boundaries) (now plants) (now contracts))) < 65536 ⌝ }
-    ensures { λ w. ⌜ w ≡ sheetRow (numbers (now (agents .entry)) (now (boundaries .entry)) (now (plants .entry)) (now (contracts .entry))) r ⌝ }
+    ensures { λ w. ⌜ w ≡ sheetRow
+        (numbers (now (agents .entry)) (now (boundaries .entry)) (now (plants .entry)) (now (contracts .entry))) r ⌝ }
 {
     let a = agents.len();
     let b = a + boundaries.len() / 4;
@@ -156,8 +157,11 @@ pub(crate) fn put_sheet(
     out: &mut [u8],
     rows: usize,
 )
-    requires { ⌜ (trailerStart (countsIn (numbers (now agents) (now boundaries) (now plants) (now contracts))) < 65536) × (16 * rows ≤ length (now out)) ⌝ }
-    ensures { λ _. ⌜ Filled 0 (now (out .entry)) (now (out .exit)) (16 * rows) (byteOf (sheetRow (numbers (now (agents .entry)) (now (boundaries .entry)) (now (plants .entry)) (now (contracts .entry))))) ⌝ }
+    requires { ⌜ (trailerStart (countsIn (numbers (now agents) (now boundaries) (now plants) (now contracts))) < 65536)
+        × (16 * rows ≤ length (now out)) ⌝ }
+    ensures { λ _. ⌜ Filled 0 (now (out .entry)) (now (out .exit)) (16 * rows)
+        (byteOf (sheetRow (numbers (now (agents .entry)) (now (boundaries .entry)) (now (plants .entry))
+        (now (contracts .entry))))) ⌝ }
 {
     for r in 0..rows {
         let w = row_words(agents, boundaries, plants, contracts, r);

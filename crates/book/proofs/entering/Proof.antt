@@ -12,7 +12,10 @@ turned-unless-refused-requires c κs =
     (let a = c .before .before .args in entry-proper (a .hour) (a .demand) (a .losses) (a .bought) (a .price)
     (sym (c .before .entry-verdict .ensures) ∙ e)))
 
+returns : tie.Need-returns
+returns c = rw (← (c .before .before .entry-verdict .ensures), ← (c .before .hour-held .ensures)) (c .turned-unless-refused .ensures)
+
 pub entering-spec : {M : Type 1} → statement M
 entering-spec =
     tie.close
-    (tie.spec (λ c κs. search needs) (λ c κs. search needs) turned-unless-refused-requires (λ c. cc))
+    (tie.spec (λ c κs. search needs) (λ c κs. search needs) turned-unless-refused-requires returns)

@@ -1,69 +1,18 @@
-use mathlib.Core.Path.{ap, sym, _∙_}
-use denote.Ref.{now}
+use mathlib.Core.Path.{sym, _∙_}
 use borrow.Author.Needs.{needs}
-use Rattle.book_cells.specs.Cells.{cellsVerdict}
-use Rattle.book_cells.proofs.Turning.{enter-turnable, does-fine, does-refused}
+use Rattle.book_cells.proofs.Turning.{enter-good}
 use Rattle.book_cells.proofs.enter.Statement.{statement}
 use Rattle.book_cells.proofs.enter.Tie as tie
 
--- ways back: X-to-Y leads from the place X of the code to the earlier place Y
-abbrev known-told-to-cells-verdict : tie.After-known-told → tie.After-cells-verdict
-known-told-to-cells-verdict c = c .before .before .before
-
-abbrev known-told-to-entry-verdict : tie.After-known-told → tie.After-entry-verdict
-known-told-to-entry-verdict c = c .before .before .before .before .before
-
-abbrev known-told-to-start : tie.After-known-told → tie.Start
-known-told-to-start c = known-told-to-entry-verdict c .before .before
-
-abbrev turn-arg-to-cells-verdict : tie.After-turn-arg → tie.After-cells-verdict
-turn-arg-to-cells-verdict c = c .before .before .before
-
-abbrev turn-arg-to-entry-verdict : tie.After-turn-arg → tie.After-entry-verdict
-turn-arg-to-entry-verdict c = c .before .before .before .before .before
-
-abbrev turn-arg-to-start : tie.After-turn-arg → tie.Start
-turn-arg-to-start c = turn-arg-to-entry-verdict c .before .before
-
-abbrev slice-known2-to-enum-told : tie.After-slice-known2 → tie.After-enum-told
-slice-known2-to-enum-told c = c .before .before .before .before
-
-abbrev slice-known2-to-cells-verdict : tie.After-slice-known2 → tie.After-cells-verdict
-slice-known2-to-cells-verdict c = c .before .before .before .before .before .before
-
-abbrev slice-known2-to-entry-verdict : tie.After-slice-known2 → tie.After-entry-verdict
-slice-known2-to-entry-verdict c = slice-known2-to-cells-verdict c .before .before
-
-abbrev slice-known2-to-start : tie.After-slice-known2 → tie.Start
-slice-known2-to-start c = slice-known2-to-entry-verdict c .before .before
-
-turn-requires : tie.Need-turn-requires
-turn-requires c κs =
-    let a = turn-arg-to-start c .args in
-    enter-turnable (now (a .cells)) (a .hour) (a .demand) (a .losses) (a .bought) (a .price)
-    (sym (turn-arg-to-cells-verdict c .cells-verdict .ensures
-    ∙ ap (cellsVerdict (now (a .cells)) (a .hour)) (turn-arg-to-entry-verdict c .entry-verdict .ensures))
-    ∙ (c .before) .enum-told .given .1)
+turn-unless-refused-requires : tie.Need-turn-unless-refused-requires
+turn-unless-refused-requires c κs =
+    let a = c .before .before .before .args in
+    λ e. enter-good (a .hour) (a .demand) (a .losses) (a .bought) (a .price) (sym (c .before .entry-verdict .ensures) ∙ e)
 
 returns : tie.Need-returns
 returns c =
-    let a = slice-known2-to-start c .args in
-    does-fine _ _ _ _
-    (sym (slice-known2-to-cells-verdict c .cells-verdict .ensures
-    ∙ ap (cellsVerdict (now (a .cells)) (a .hour)) (slice-known2-to-entry-verdict c .entry-verdict .ensures))
-    ∙ slice-known2-to-enum-told c .enum-told .given .1)
-    ((c .before .before) .turn .ensures)
-
-returns-2 : tie.Need-returns-2
-returns-2 c =
-    let a = known-told-to-start c .args in
-    does-refused _ _ _ _
-    (sym (known-told-to-cells-verdict c .cells-verdict .ensures
-    ∙ ap (cellsVerdict (now (a .cells)) (a .hour)) (known-told-to-entry-verdict c .entry-verdict .ensures))
-    ∙ (c .before) .verdict .given .1)
+    let at-turned = c .before .before in
+    rw (at-turned .before .before .entry-verdict .ensures) at (at-turned .turn-unless-refused .ensures)
 
 pub enter-spec : {M : Type 1} → statement M
-enter-spec =
-    tie.close
-    (tie.spec (λ c κs. search needs) (λ c κs. search needs) (λ c. search needs) turn-requires (λ c. search needs)
-    (λ c. search needs) returns (λ c. search needs) returns-2)
+enter-spec = tie.close (tie.spec (λ c κs. search needs) turn-unless-refused-requires (λ c. search needs) returns)

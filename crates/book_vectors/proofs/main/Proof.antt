@@ -7,7 +7,8 @@ use borrow.Author.Needs.{needs}
 use Rattle.book_vectors.proofs.main.Statement.{statement}
 use Rattle.book_vectors.proofs.main.Tie as tie
 
-within : (c : tie.Else1) → Within (Input.Bytes ((c .before .before) .got .given .0 .0)) (length ((c .before .before .before .before .before) .read-all .last .0))
+within : (c : tie.Else1)
+    → Within (Input.Bytes (c .before .before .got .given .0 .0)) (length (c .before .before .before .before .before .read-all .last .0))
 within c = rw ((c .before .before) .got .given .1) at ((c .before .before .before .before .before) .read-all .ensures)
 
 array-share-prefix-buf : tie.Need-array-share-prefix-buf

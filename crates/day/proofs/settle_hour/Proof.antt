@@ -18,7 +18,8 @@ all-cells w h = omega arith
 returns : tie.Need-returns
 returns c =
     let at-settle = c .before .before .before .before .before .before .before in
-    let start = at-settle .before .before .before .before .before .before .before .before .before in
+    let at-settle-arg = at-settle .before .before .before .before in
+    let start = at-settle-arg .before .before .before .before .before in
     let h = start .args .h in
     one-hour h _ _ _ _ (start .pre) (lent-cells figuresPart h) (lent-cells moneyPart h) (lent-cells schedulePart h)
     (lent-cells amountsPart h) (all-cells figuresPart h) (all-cells moneyPart h) (all-cells schedulePart h)

@@ -80,7 +80,8 @@ returns c = let e : c .before .loop .h ≡ hours = omega arith in rw e at (c .be
 pub settle-hours-spec : {M : Type 1} → statement M
 settle-hours-spec =
     tie.close
-    (tie.spec Inv-loop μ-loop (λ c κs. search needs) loop-holds (λ c. search needs) (λ c. search needs)
-    (λ c κs. search needs) add-end (λ c. omega arith) (λ c. search needs) part-settle-hour-end settle-hour-requires
-    (λ c. search needs) (λ c. omega arith) (λ c. search needs) (λ c. search needs) loop-again (λ c. search needs)
-    (λ c. search needs) (λ c. search needs) (λ c. search needs) returns)
+    (tie.spec Inv-loop μ-loop (λ c κs. search needs) loop-holds (λ c. omega arith) (λ c. omega arith)
+    (λ c κs. search needs) add-end (λ c. omega arith) (λ c. omega arith) part-settle-hour-end settle-hour-requires
+    (λ c. omega arith) (λ c. omega arith) (λ c. omega arith) (λ c. omega arith) loop-again
+    (λ c. c .before .loop .inv .2 .figures .long) (λ c. c .before .loop .inv .2 .money .long)
+    (λ c. c .before .loop .inv .2 .schedule .long) (λ c. c .before .loop .inv .2 .amounts .long) returns)

@@ -25,7 +25,8 @@ more : (c : tie.After-one-if-changed Inv-loop μ-loop)
     (c .before .before .before .before .loop .k + 1)
 more c =
     let at-loop = c .before .before .before .before in
-    cc (changes-more (at-loop .before .before .args .s .now) (at-loop .loop .k))
+    rw (c .one-if-changed .ensures, c .before .mended-at .ensures, at-loop .loop .inv .1)
+    (sym (changes-more (at-loop .before .before .args .s .now) (at-loop .loop .k)))
 
 loop-holds : tie.Need-loop-holds Inv-loop μ-loop
 loop-holds c = (omega arith, sym (count-none _))

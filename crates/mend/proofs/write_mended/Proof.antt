@@ -46,12 +46,15 @@ loop-again c =
     let s = start .args .s .now in
     let k = at-loop .loop .k in
     let inv = at-loop .loop .inv in
-    let n : at-note .note .result ≡ countTo (changed s) (k + 1) = cc (changes-more s k) in
+    let new = at-mended .mended-at .ensures in
+    let n : at-note .note .result ≡ countTo (changed s) (k + 1)
+    = (rw (inv .1, new) at (at-note .note .ensures .0)) ∙ sym (changes-more s k) in
     let f = report-more s _ _ k (omega arith) (start .pre .1 .1) (rw (inv .1) at (inv .3)) in
-    let e : at-note .note .last .0 ≡ noted (at-loop .loop .report) (countTo (changed s) k) k (at s k) (mendedAt s k) = cc in (
+    let e : at-note .note .last .0 ≡ noted (at-loop .loop .report) (countTo (changed s) k) k (at s k) (mendedAt s k)
+    = rw (inv .1, new) at (at-note .note .ensures .1) in (
       omega arith,
       n,
-      filled-more _ _ _ _ _ _ (omega (arith, inv .2 .long)) (at-mended .mended-at .ensures) (inv .2),
+      filled-more _ _ _ _ _ _ (omega (arith, inv .2 .long)) new (inv .2),
       rw (e, n) f,
     )
 

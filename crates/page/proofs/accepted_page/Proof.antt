@@ -9,8 +9,9 @@ use lib.ListN.{length, take, replicate}
 use lib.Seq.{length-take-le}
 use Rattle.rows.specs.Limits.{mostAgents, mostPlants, mostContracts}
 use Rattle.sheet.proofs.Accepted.{Few, accepted-few, accepted-counts}
+use Rattle.columns.proofs.Refusing.{room-for}
 use Rattle.settle.specs.Settled.{lent}
-use Rattle.page.proofs.Paged.{print-fine, room-for, settled-page}
+use Rattle.page.proofs.Paged.{print-fine, settled-page}
 use Rattle.page.proofs.accepted_page.Statement.{statement}
 use Rattle.page.proofs.accepted_page.Tie as tie
 
@@ -74,7 +75,7 @@ returns c =
     lent (replicate (6 * mostAgents) 0) (replicate mostAgents (pos 0)) (replicate mostPlants 0)
     (replicate mostContracts 0) in
     let room =
-    room-for (now (a .sheet)) (a .c) counts w before (le-refl (6 * mostAgents)) (le-refl mostAgents)
+    room-for (now (a .sheet)) (a .c) (at-start .pre) before (le-refl (6 * mostAgents)) (le-refl mostAgents)
     (le-refl mostPlants) (le-refl mostContracts) in
     let small : n ≤ mostAgents = w .agents in
     let s = at-settle .settle in

@@ -3,8 +3,8 @@ use Prim.Native.Nat.{_-_, _≤_}
 use mathlib.Core.Path.{_≡_, sym}
 use lib.ListN.{length}
 use lib.Seq.{length-take-le}
-use Rattle.reason_vectors.specs.Cases.{Holds}
-use Rattle.reason_vectors.specs.declared.Case.{Case}
+use Rattle.input.specs.Cases.{CaseWithin}
+use Rattle.input.specs.declared.cases.Case.{Case}
 use Rattle.reason_vectors.proofs.main.Statement.{statement}
 use Rattle.reason_vectors.proofs.main.Tie as tie
 
@@ -16,7 +16,7 @@ abbrev μ-loop : tie.MeasureT-loop
 
 -- the case lies within the buffer
 within : (c : tie.After-case Inv-loop μ-loop)
-    → Holds (Case.Sheet (c .case .given .0 .0)) (length ((c .before .before .before) .read-case .last .0))
+    → CaseWithin (Case.Sheet (c .case .given .0 .0)) (length ((c .before .before .before) .read-case .last .0))
 within c = rw (c .case .given .1) at ((c .before .before .before) .read-case .ensures)
 
 array-share-prefix-buf : tie.Need-array-share-prefix-buf Inv-loop μ-loop

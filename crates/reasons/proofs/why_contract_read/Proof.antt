@@ -9,8 +9,7 @@ use Rattle.rows.specs.declared.Contract.{Contract}
 use Rattle.rows.specs.declared.Words.{Words}
 use Rattle.sheet.specs.Asking.{contractAt}
 use Rattle.sheet.proofs.Accepted.{accepted-few, accepted-contract}
-use Rattle.columns.specs.Columns.{hourOf}
-use Rattle.reasons.specs.Reasons.{sheetVerdict}
+use Rattle.columns.specs.Columns.{hourOf, sheetVerdict}
 use Rattle.reasons.proofs.Asked.{summary-refused, summary-fine}
 use Rattle.reasons.proofs.Told.{contract-refused, contract-absent, contract-told, amount-at, demand-at}
 use Rattle.reasons.proofs.why_contract_read.Statement.{statement}

@@ -7,8 +7,7 @@ use Rattle.refusals.specs.declared.Verdict.{Verdict}
 use Rattle.rows.specs.Rows.{plantOf}
 use Rattle.rows.specs.declared.Words.{Words}
 use Rattle.sheet.proofs.Accepted.{accepted-few}
-use Rattle.columns.specs.Columns.{hourOf}
-use Rattle.reasons.specs.Reasons.{sheetVerdict}
+use Rattle.columns.specs.Columns.{hourOf, sheetVerdict}
 use Rattle.reasons.proofs.Asked.{summary-refused, summary-fine}
 use Rattle.reasons.proofs.Told.{plant-refused, plant-absent, plant-told, schedule-at, price-told}
 use Rattle.reasons.proofs.why_plant_read.Statement.{statement}

@@ -5,7 +5,9 @@ use Rattle.sheet.proofs.layout_good.Tie as tie
 
 returns : tie.Need-returns
 unfolding layoutGood
-returns c = cc
+returns c =
+    let start = c .before .before .before in
+    rw (← (c .before .counts-fit .ensures), ← (start .pre .1), ← (c .distances-good .ensures))
 
 pub layout-good-spec : {M : Type 1} → statement M
 layout-good-spec =

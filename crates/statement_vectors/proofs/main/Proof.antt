@@ -3,8 +3,8 @@ use Prim.Native.Nat.{_-_, _≤_}
 use mathlib.Core.Path.{_≡_, sym}
 use lib.ListN.{length}
 use lib.Seq.{length-take-le}
-use Rattle.statement_vectors.specs.Pieces.{Within}
-use Rattle.statement_vectors.specs.declared.Got.{Got}
+use Rattle.input.specs.Cases.{CaseWithin}
+use Rattle.input.specs.declared.cases.Case.{Case}
 use Rattle.statement_vectors.proofs.main.Statement.{statement}
 use Rattle.statement_vectors.proofs.main.Tie as tie
 
@@ -16,8 +16,8 @@ abbrev μ-loop : tie.MeasureT-loop
 
 -- the sheet lies within the buffer
 within : (c : tie.After-sheet Inv-loop μ-loop)
-    → Within (Got.Cells (c .sheet .given .0 .0)) (length ((c .before .before .before) .read-sheet .last .0))
-within c = rw (c .sheet .given .1) at ((c .before .before .before) .read-sheet .ensures)
+    → CaseWithin (Case.Sheet (c .sheet .given .0 .0)) (length (c .before .before .before .read-case .last .0))
+within c = rw (c .sheet .given .1) at (c .before .before .before .read-case .ensures)
 
 array-share-prefix-buf : tie.Need-array-share-prefix-buf Inv-loop μ-loop
 array-share-prefix-buf c = within (c .before)
@@ -29,6 +29,6 @@ pub main-spec : {M : Type 1} → statement M
 main-spec =
     tie.close
     (tie.spec Inv-loop μ-loop (λ c κs. search needs) (λ c. search needs) (λ c. search needs) (λ c κs. search needs)
-    (λ c. search needs) (λ c. search needs) (λ c. search needs) array-share-prefix-buf
+    (λ c. search needs) (λ c. search needs) array-share-prefix-buf
     slice-aggregate-run-statement (λ c κs. search needs) (λ c. search needs) (λ c κs. search needs)
     (λ c. search needs) (λ c. search needs) (λ c. search needs) (λ c. search needs) (λ c. search needs))

@@ -12,19 +12,25 @@ Inv-loop out₀ count n i₀ out i = (i ≤ n) × (n ≤ length out) × (length 
 abbrev μ-loop : tie.MeasureT-loop
 μ-loop out₀ count n i₀ out i = n - i
 
+-- ways back: X-to-Y leads from the place X of the code to the earlier place Y
+abbrev match2-keys1-to-loop : tie.At-match2-keys1 Inv-loop μ-loop → tie.At-loop Inv-loop μ-loop
+match2-keys1-to-loop c = c .before .before .before
+
+abbrev signed-to-loop : tie.After-signed Inv-loop μ-loop → tie.At-loop Inv-loop μ-loop
+signed-to-loop c = match2-keys1-to-loop (c .before .before .before .before .before .before .before)
+
 loop-again : tie.Need-loop-again Inv-loop μ-loop
 loop-again c = (
   omega arith,
-  simp length-set ((c .before .before .before .before .before .before .before .before .before .before) .loop .inv .1),
-  simp length-set ((c .before .before .before .before .before .before .before .before .before .before) .loop .inv .2),
+  simp length-set (signed-to-loop c .loop .inv .1),
+  simp length-set (signed-to-loop c .loop .inv .2),
 )
 
 pub read-money-spec : {M : Type 1} → statement M
 read-money-spec =
     tie.close
-    (tie.spec Inv-loop μ-loop (λ c κs. search needs) (λ c. search needs) (λ c. search needs) (λ c. search needs)
-    (λ c. search needs) (λ c. search needs) (λ c. search needs) (λ c κs. search needs)
-    (λ c. search needs) (λ c. search needs) (λ c. search needs) (λ c. search needs)
+    (tie.spec Inv-loop μ-loop (λ c κs. search needs) (λ c. search needs) (λ c. search needs) (λ c. search needs) (λ c. search needs)
+    (λ c. search needs) (λ c κs. search needs) (λ c. search needs) (λ c. search needs) (λ c. search needs)
     (λ c κs. search needs) (λ c. search needs) (λ c. search needs) (λ c. search needs)
-    (λ c. search needs) (λ c κs. search needs) (λ c. search needs) (λ c. search needs)
-    (λ c. search needs) (λ c. search needs) loop-again (λ c. search needs) (λ c. search needs))
+    (λ c κs. search needs) (λ c. search needs) (λ c. search needs) (λ c. search needs) (λ c. search needs) loop-again
+    (λ c. search needs) (λ c. search needs))

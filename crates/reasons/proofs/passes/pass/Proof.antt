@@ -47,7 +47,7 @@ start-of c = c .args .c .agents + c .args .c .boundaries + c .args .c .plants
 is : (c : tie.After-part-of Inv-loop μ-loop)
     → c .before .contract-of .result
     ≡ contract (part-of-to-start c .args .bytes .now) (start-of (part-of-to-start c)) (part-of-to-loop c .loop .j)
-is c = cc
+is c = c .before .contract-of .ensures ∙ ap contractOf (c .before .before .row-at .ensures)
 
 -- what is added of it
 one : (c : tie.After-part-of Inv-loop μ-loop)

@@ -1,5 +1,5 @@
--- `sheet::opened::kept_stretch` meets its contract: a walk of its MIR, by hand. As in `kept_row`, an `OpenSheet` that one call returns is held
--- in a local and passed to the next; here the next hands back a part of the slice.
+-- `sheet::opened::kept_stretch` meets its contract: a walk of its MIR, by hand. As in `kept_row`, an `OpenSheet` that one call
+-- returns is held in a local and passed to the next; here the next hands back a part of the slice.
 -- Assumes nothing.
 use mathlib.Core.Path.{_≡_, refl, ap, sym, _∙_}
 use Prim.Native.Nat.{ℕ, _<_, _^_}
@@ -14,18 +14,19 @@ use prog.Memory.{Memory}
 use prog.Routine.{Routine}
 use prog.Wp.{Heap, Calls, Loops, WpFn, Tables}
 use ghost.Atoms.{Atoms, sem}
-use contract.Lifetimes.{Lfts}
 use contract.Monad.{Fun, fact}
 use contract.Running.{givenOf, tables, tablesOf}
-use types.Kit.{Given, ‵, raw, _⊛_, ⋆, some, later, _$_, _∵_, !, qed, by, move, drop, use1, use2, split, join, pick, fsplit, fjoin, suffices, frame, await, done}
-use types.Run.{look, init, forget, stop, from, load, and-then, no-more, land, returns, enter, alloc1, alloc0, params1, pass1, pass0, free1, free0}
+use types.Kit.{Given, ‵, raw, _⊛_, ⋆, some, later, _$_, _∵_, !, qed, by, move, drop, use1}
+use types.Kit.{use2, split, join, pick, fsplit, fjoin, suffices, frame, await, done}
+use types.Run.{look, init, forget, stop, from, load, and-then, no-more, land}
+use types.Run.{returns, enter, alloc1, alloc0, params1, pass1, pass0, free1, free0}
 use sound.WpLaws.{FmC, fmOf, WpFn-mono}
-use denote.RattleType.{RattleType, owns}
+use denote.RattleType.{owns}
 use denote.Laws.{Is, shows}
 use denote.Plain.{uint-makes, uint-vals, uint-tells}
 use denote.Builtin.{u8, u32}
 use denote.Ref.{RefT, NamedLft, now}
-use denote.Signature.{plain, namedLft}
+use denote.Signature.{plain}
 use denote.Slice.{sliceVal, ShrSlice, slice-vals, shr-slice-tells, shr-slice-lawful, shr-slice-copy}
 use denote.Steps.{owned, peeks, heard, nothing}
 use denote.Struct.Laws as LL
@@ -34,7 +35,8 @@ use denote.Triple.Call.{calls-at}
 use denote.Triple.Entry.{Vals, onEntry}
 use denote.Triple.Spec.{Meets, tripleOf}
 use denote.Triple.Table.{entered, cited}
-use denote.Triple.Walked.{says, needs, Stays, stay-none, stay-none-slice, walkOf, goes-none, goes-none-slice, Walks, ends-at, walked, walk-meets}
+use denote.Triple.Walked.{says, needs, Stays, stay-none, stay-none-slice, walkOf}
+use denote.Triple.Walked.{goes-none, goes-none-slice, Walks, ends-at, walked, walk-meets}
 use denote.Exit.{yes}
 use denote.Triple.Clauses.{ensured, lasts}
 use Rattle.sheet.specs.Reading.{readOf}
@@ -44,6 +46,7 @@ use Rattle.sheet.specs.declared.Counts.{Counts}
 use Rattle.sheet.specs.declared.opened.OpenSheet.{OpenSheet}
 use Rattle.sheet.proofs.opened.OpenSheet as T
 use Rattle.sheet.proofs.opened.OpenSheet.Laws as T′
+use Rattle.sheet.proofs.Walk.{B}
 use Rattle.sheet.proofs.Counts as K
 use Rattle.sheet.proofs.Counts.Laws as K′
 use Rattle.sheet.proofs.opened.open as new
@@ -58,10 +61,6 @@ use Rattle.sheet.proofs.opened.kept_stretch.Key.{name as #sheet·kept}
 use Rattle.sheet.proofs.opened.kept_stretch as this
 use Rattle.sheet.proofs.opened.kept_stretch.Statement as stated
 use Rattle.sheet.proofs.opened.kept_stretch.Code as code
-
--- the struct's type, over the signature's lifetimes
-abbrev B : Lfts 1 → RattleType
-B κs = T.the-row (namedLft 1 0 tt κs)
 
 abbrev stayed : Stays (this.ended .signature .params) (this.ended .kept)
 stayed = (

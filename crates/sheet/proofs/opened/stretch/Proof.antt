@@ -1,4 +1,5 @@
--- `sheet::opened::stretch` meets its contract: a walk of its MIR, by hand. The struct is taken apart, and `section_of` is called on the slice, the counts and the number.
+-- `sheet::opened::stretch` meets its contract: a walk of its MIR, by hand. The struct is taken apart, and `section_of` is called on
+-- the slice, the counts and the number.
 -- The struct is Copy: what it owns is had twice, one copy is kept whole for the exit, and of the other what bytes owns goes to the callee.
 -- Assumes nothing.
 use mathlib.Core.Path.{_≡_, refl}
@@ -16,9 +17,11 @@ use prog.Wp.{Heap, Calls, Loops, WpFn, Tables}
 use ghost.Atoms.{Atoms, sem}
 use contract.Monad.{Fun, fact}
 use contract.Running.{givenOf, tables, tablesOf}
-use types.Kit.{Given, ‵, raw, _⊛_, ⋆, some, later, _$_, _∵_, !, qed, by, move, drop, use1, use2, split, pick, fsplit, fjoin, suffices, frame, await, done}
+use types.Kit.{Given, ‵, raw, _⊛_, ⋆, some, later, _$_, _∵_, !, qed, by, move, drop}
+use types.Kit.{use1, use2, split, pick, fsplit, fjoin, suffices, frame, await, done}
 use types.Part.{whole, sub, look-in}
-use types.Run.{look, init, forget, stop, fld, from, load, of-opd, and-then, no-more, assigns, land, returns, enter, alloc1, alloc0, params1, pass1, pass0, free1, free0}
+use types.Run.{look, init, forget, stop, fld, from, load, of-opd, and-then, no-more, assigns}
+use types.Run.{land, returns, enter, alloc1, alloc0, params1, pass1, pass0, free1, free0}
 use sound.WpLaws.{FmC, fmOf, WpFn-mono}
 use denote.RattleType.{owns}
 use denote.Laws.{Is, shows}

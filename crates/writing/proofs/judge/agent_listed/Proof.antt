@@ -5,7 +5,9 @@ use Rattle.writing.proofs.judge.agent_listed.Tie as tie
 
 returns : tie.Need-returns
 unfolding agentListed
-returns c = cc
+returns c =
+    let good = rw (c .before .before .agent-in .ensures) at (c .before .agent-good .ensures) in
+    rw good at (c .unless .ensures)
 
 pub agent-listed-spec : {M : Type 1} → statement M
 agent-listed-spec =

@@ -2,8 +2,8 @@ use borrow.Author.Needs.{needs}
 use native.Mathlib.Omega.{arith}
 use mathlib.Core.Path.{sym}
 use lib.Seq.{length-take-le}
-use Rattle.hour_vectors.proofs.read_sheet.Statement.{statement}
-use Rattle.hour_vectors.proofs.read_sheet.Tie as tie
+use Rattle.input.proofs.cases.read_sheet.Statement.{statement}
+use Rattle.input.proofs.cases.read_sheet.Tie as tie
 
 slice-aggregate-read-all : tie.Need-slice-aggregate-read-all
 slice-aggregate-read-all c = sym (length-take-le _ _ (omega arith))

@@ -1,0 +1,9 @@
+-- Of a case too: what was read lies within the buffer. Assumes nothing.
+use Prim.Native.Nat.{ℕ, _≤_}
+use Rattle.input.specs.declared.cases.Case.{Case}
+
+abbrev pub CaseWithin : Case → ℕ → Type 0
+CaseWithin (Case.Sheet n) size = n ≤ size
+CaseWithin Case.End size = 0 ≤ size
+CaseWithin Case.Cut size = 0 ≤ size
+CaseWithin Case.Failed size = 0 ≤ size
