@@ -4,6 +4,10 @@ pub mod Insert
 pub mod Scan
 pub mod Decode
 pub mod Walks
+pub mod Known
+pub mod RowKeys
+pub mod OwnKeys
 pub mod ByPlace
 pub mod Section
+pub mod Fits
 pub mod Verdicts

@@ -19,9 +19,10 @@ use Rattle.rows.specs.Limits.{mostAgents, mostContracts, mostQuantity, mostPric
 use Rattle.rows.specs.declared.Contract.{Contract}
 use Rattle.deals.specs.Deals.{fixed, demanded}
 use Rattle.deals.specs.Hour.{hourAmount}
-use Rattle.contracts.specs.Assign.{countIn, dealIn, dealsIn, sectionFits, dealGood, dealVerdict, layoutVerdict, dealsVerdict, amountsVerdict, assignVerdict, Assigned}
+use Rattle.contracts.specs.Assign.{countIn, dealIn, dealsIn, sectionFits, dealGood, dealVerdict}
+use Rattle.contracts.specs.Assign.{layoutVerdict, dealsVerdict, amountsVerdict, assignVerdict, Assigned}
 use Rattle.contracts.specs.Keys.{Keyed, rowCount, Ready}
-use Rattle.contracts.proofs.Section.{count-is, buyer-in, kind-in, price-in}
+use Rattle.contracts.proofs.Section.{count-is, buyer-in, kind-in, price-in, quantity-in}
 
 -- ---- what the layout's test tells
 module _ (s ds : List ℕ) where
@@ -98,6 +99,7 @@ module _ (s ds out : List ℕ) where
           least = λ i l. omega (arith, kind-in s i (among i l), row i (among i l) .least);
           most = λ i l. omega (arith, kind-in s i (among i l), row i (among i l) .most);
           price = λ i l. omega (arith, price-in s i (among i l), row i (among i l) .price);
+          quantity = λ i l. omega (arith, quantity-in s i (among i l), row i (among i l) .quantity);
         },
         leb-true (countIn s) (length out) (fine-test (leb (countIn s) (length out)) noRoom 0 (all .1 .1 .0)),
       )

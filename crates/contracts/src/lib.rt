@@ -4,6 +4,7 @@ use refusals::Verdict;
 use rows::Agent;
 use rows::Contract;
 
+mod fit;
 mod order;
 mod walk;
 
@@ -14,10 +15,11 @@ ghost use lib.ListN.{length};
 ghost use Rattle.sums.specs.Sums.{pick};
 ghost use Rattle.sums.specs.Lists.{at, Filled};
 ghost use Rattle.refusals.specs.Refusals.{refusedUnless, orElse, noRoom};
-ghost use Rattle.rows.specs.Limits.{mostContracts};
+ghost use Rattle.rows.specs.Limits.{mostAgents, mostContracts};
 ghost use Rattle.deals.specs.Hour.{hourAmount};
 ghost use Rattle.contracts.specs.Assign.{countIn, dealIn, dealsIn, sectionFits, dealGood, dealsVerdict, assignVerdict, Assigned};
 ghost use Rattle.contracts.specs.Keys.{rowSpan, dealKey, keyIn, keyRow, Keyed, Ready};
+ghost use Rattle.contracts.specs.Fits.{exceeds, Cut};
 ghost use Rattle.contracts.specs.Walk.{Rowed, Scattered};
 
 // ---- the key of each row, by which the rows are put in order
@@ -150,13 +152,13 @@ fn scatter(keys: &[u64], n: usize, amounts: &[u32], out: &mut [u32])
 
 // ---- the amounts
 
-// Rows that nothing is wrong with: put in order by their keys, assigned by place, and put back.
-fn assign_rows(section: &[u8], keys: &mut [u64], demands: &[u32], out: &mut [u32])
-    requires { ⌜ Ready (dealsIn (now section)) (now demands) × (countIn (now section) ≤ length (now out)) ⌝ }
+// The rows of the buyers whose rows exceed their demand: put in order by their keys, assigned by place, and put back.
+fn assign_rows(section: &[u8], keys: &mut [u64], totals: &[u32], demands: &[u32], out: &mut [u32])
+    requires { ⌜ Ready (dealsIn (now section)) (now demands) × (countIn (now section) ≤ length (now out)) × (length (now totals) ≡ mostAgents) ⌝ }
     requires { ⌜ (countIn (now section) ≤ length (now keys)) × ((j : ℕ) → j < countIn (now section) → at (now keys) j ≡ keyIn (now section) j) ⌝ }
-    ensures { λ _. ⌜ Filled 0 (now (out .entry)) (now (out .exit)) (countIn (now (section .entry))) (hourAmount (dealsIn (now (section .entry))) (now (demands .entry))) ⌝ }
+    ensures { λ _. ⌜ Cut (now (section .entry)) (now (demands .entry)) (exceeds (now (totals .entry)) (now (demands .entry))) (now (out .entry)) (now (out .exit)) ⌝ }
 {
-    let n = section.len() / 16;
+    let n = fit::choose(keys, section.len() / 16, totals, demands);
     order::sort(keys, n);
     // Behind the sort, so that they can lie where earlier scratch lay.
     let mut placed = [0u32; Contract::MOST];
@@ -164,6 +166,17 @@ fn assign_rows(section: &[u8], keys: &mut [u64], demands: &[u32], out: &mut [u32
     gather(section, keys, n, &mut placed);
     walk::walk(keys, n, &placed, demands, &mut amounts);
     scatter(keys, n, &amounts, out);
+}
+
+// Rows that nothing is wrong with: all in full, and then again those of each buyer whose rows together are more than its demand.
+fn assign_all(section: &[u8], keys: &mut [u64], demands: &[u32], out: &mut [u32])
+    requires { ⌜ Ready (dealsIn (now section)) (now demands) × (countIn (now section) ≤ length (now out)) ⌝ }
+    requires { ⌜ (countIn (now section) ≤ length (now keys)) × ((j : ℕ) → j < countIn (now section) → at (now keys) j ≡ keyIn (now section) j) ⌝ }
+    ensures { λ _. ⌜ Filled 0 (now (out .entry)) (now (out .exit)) (countIn (now (section .entry))) (hourAmount (dealsIn (now (section .entry))) (now (demands .entry))) ⌝ }
+{
+    let mut totals = [0u32; Agent::MOST];
+    fit::in_full(section, &mut totals, out);
+    assign_rows(section, keys, &totals, demands, out);
 }
 
 // What each contract of a section of rows gets; `demands` has the commercial demand of each agent.
@@ -175,6 +188,6 @@ pub fn assign(section: &[u8], demands: &[u32], out: &mut [u32]) -> Verdict
     let Verdict::Fine = v else {
         return v;
     };
-    assign_rows(section, &mut keys, demands, out);
+    assign_all(section, &mut keys, demands, out);
     Verdict::Fine
 }

@@ -29,7 +29,7 @@ impl Tally {
 
 // ---- what a key says
 
-fn buyer_of(k: u64) -> usize
+pub(crate) fn buyer_of(k: u64) -> usize
     ensures { λ r. ⌜ r ≡ keyBuyer k ⌝ }
 {
     (k / crate::BUYER_SPAN) as usize
