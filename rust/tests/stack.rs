@@ -4,7 +4,7 @@ use std::path::Path;
 use std::process::Command;
 
 /// Each call with the bytes that it stays under.
-const MOST: [(&str, usize); 4] = [("settle", 14 << 10), ("page", 18 << 10), ("check", 28 << 10), ("day", 15 << 10)];
+const MOST: [(&str, usize); 4] = [("settle", 11 << 10), ("page", 15 << 10), ("check", 23 << 10), ("day", 12 << 10)];
 
 #[test]
 fn stack_of_each_call() {

@@ -1,5 +1,5 @@
 -- What the code has read, agent by agent, is what the definitions say. Assumes nothing.
-use Prim.Native.Nat.{ℕ, _+_, _-_, _≤_}
+use Prim.Native.Nat.{ℕ, _+_, _-_, _≤_, _<_}
 use native.Mathlib.Omega.{arith}
 use mathlib.Core.Bool.{_&&_, not}
 use mathlib.Core.List.{List}
@@ -19,34 +19,49 @@ use Rattle.rows.specs.Rows.{carriesLosses, isOutside}
 use Rattle.hour.specs.Sheet.{Sheet, agents, retails, outside}
 use Rattle.hour.specs.Sound.{Sound}
 use Rattle.hour.specs.Balance.{rounded, imported, exported, consumption, consumed, consumptions, ownImport, delivered, entering, leaving, losses, lossShare, commercial, hourDemand, injected, smallExports, dispatchDemand}
-use Rattle.hour.specs.Answer.{firstOver}
+use Rattle.hour.specs.Answer.{firstOver, balanceVerdict}
 use Rattle.hour.proofs.Demand.{weights-long, small-metered}
-use Rattle.balance.specs.Balances.{zeros}
-use Rattle.balance.specs.Parts.{Read, Sides}
+use Rattle.balance.specs.Parts.{weighedBy}
 
-module _ (h : Sheet) (n : ℕ) (kinds imports exports used : List ℕ) (r : Read h n kinds imports exports used) where
-  pub over-is : first n (λ a. carriesLosses (at kinds a) && ltb (at imports a) (at exports a)) ≡ firstOver h
+-- ---- the columns, taken together
+module _ (h : Sheet) (n : ℕ) (e : agents h ≡ n) where
+  pub over-is : (kinds imports exports : List ℕ)
+      → ((a : ℕ) → a < n → at kinds a ≡ at (h .kinds) a)
+      → ((a : ℕ) → a < n → at imports a ≡ imported h a)
+      → ((a : ℕ) → a < n → at exports a ≡ exported h a)
+      → first n (λ a. carriesLosses (at kinds a) && ltb (at imports a) (at exports a)) ≡ firstOver h
   unfolding firstOver retails
-  over-is =
-      rw (r .count)
+  over-is kinds imports exports kind took gave =
+      rw e
       (first-eq n _ _
-      (λ a l. ap (λ (k : ℕ). carriesLosses k && ltb (at imports a) (at exports a)) (r .kind .done a l)
-      ∙ ap₂ (λ (x y : ℕ). carriesLosses (at (h .kinds) a) && ltb x y) (r .took a l) (r .gave a l)))
+      (λ a l. ap (λ (k : ℕ). carriesLosses k && ltb (at imports a) (at exports a)) (kind a l)
+      ∙ ap₂ (λ (x y : ℕ). carriesLosses (at (h .kinds) a) && ltb x y) (took a l) (gave a l)))
 
-  pub consumed-is : sum n (at used) ≡ consumed h
+  pub consumed-is : (used : List ℕ) → ((a : ℕ) → a < n → at used a ≡ consumption h a) → sum n (at used) ≡ consumed h
   unfolding consumed
-  consumed-is = rw (r .count) (sum-eq n _ _ (r .used .done))
+  consumed-is used f = rw e (sum-eq n _ _ f)
 
-module _ (h : Sheet) (n : ℕ) (kinds imports exports taken given used : List ℕ) (r : Sides h n kinds imports exports taken given used) where
-  pub entering-is : sum n (at given) ≡ entering h
+  pub entering-is : (given : List ℕ) → ((a : ℕ) → a < n → at given a ≡ delivered h a) → sum n (at given) ≡ entering h
   unfolding entering
-  entering-is = rw (r .read .count) (sum-eq n _ _ (r .out .done))
+  entering-is given f = rw e (sum-eq n _ _ f)
 
-  pub leaving-is : sum n (at used) + sum n (at taken) ≡ leaving h
+  pub leaving-is : (used taken : List ℕ)
+      → ((a : ℕ) → a < n → at used a ≡ consumption h a)
+      → ((a : ℕ) → a < n → at taken a ≡ ownImport h a)
+      → sum n (at used) + sum n (at taken) ≡ leaving h
   unfolding leaving
-  leaving-is =
-      rw (r .read .count)
-      (ap₂ _+_ (sum-eq n _ _ (r .read .used .done)) (sum-eq n _ _ (r .own .done)) ∙ sym (sum-add n (consumption h) (ownImport h)))
+  leaving-is used taken f g =
+      rw e (ap₂ _+_ (sum-eq n _ _ f) (sum-eq n _ _ g) ∙ sym (sum-add n (consumption h) (ownImport h)))
+
+  -- the verdict by those numbers is the sheet's
+  pub verdict-is : (over x y u : ℕ)
+      → over ≡ firstOver h
+      → x ≡ entering h
+      → y ≡ leaving h
+      → u ≡ consumed h
+      → weighedBy n over x y u ≡ balanceVerdict h
+  unfolding balanceVerdict losses
+  verdict-is over x y u p q r t = rw (p, q, r, t, sym e)
 
 -- ---- one agent
 module _ (h : Sheet) (a k x y : ℕ) (p : k ≡ at (h .kinds) a) (q : x ≡ imported h a) where
@@ -89,9 +104,9 @@ module _ (h : Sheet) where
         filled-count 0 _ _ _ _ _ m
         (filled-by 0 _ _ _ _ _ (λ a l. ap₂ (λ (x : ℕ) (w : List ℕ). shareOf x w a) p q) (share-fine (omega arith) (omega arith) s .filled))
 
-    pub weights-are : (l : List ℕ) → n ≤ mostAgents → Filled 0 zeros l n (consumption h) → take n l ≡ consumptions h
+    pub weights-are : (before l : List ℕ) → n ≤ length before → Filled 0 before l n (consumption h) → take n l ≡ consumptions h
     unfolding consumptions
-    weights-are l few f = rw e (filled-front 0 zeros l n (consumption h) few f)
+    weights-are before l few f = rw e (filled-front 0 before l n (consumption h) few f)
 
     pub demand-is : sum n (commercial h) + sum n (ownImport h) ≡ hourDemand h
     unfolding hourDemand

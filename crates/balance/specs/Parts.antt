@@ -1,12 +1,16 @@
 -- What the parts of weighing hand on to each other. Assumes nothing.
-use Prim.Native.Nat.{ℕ, _+_, _*_, _<_}
-use mathlib.Core.List.{List}
+use Prim.Native.Nat.{ℕ, _+_, _-_, _*_, _<_}
+use mathlib.Core.Bool.{_||_}
+use mathlib.Core.List.{List, [], _∷_}
 use mathlib.Core.Path.{_≡_}
+use lib.Dec.{ltb, leb, eqb}
+use Rattle.refusals.specs.Refusals.{badExports, badGain, unshared, refusedUnless, firstOf}
+use Rattle.refusals.specs.declared.Verdict.{Verdict}
 use Rattle.rows.specs.Limits.{mostAgents, mostBoundaries, mostReading, mostFactor}
 use Rattle.sums.specs.Lists.{at, Filled}
-use Rattle.hour.specs.Sheet.{Sheet, agents}
+use Rattle.hour.specs.Sheet.{Sheet}
 use Rattle.hour.specs.Balance.{imported, exported, consumption, ownImport, delivered}
-use Rattle.balance.specs.Balances.{zeros}
+use Rattle.hour.specs.Answer.{firstOver}
 
 -- the most that all rows of a sheet come to, in ten-thousandths
 abbrev pub mostExact : ℕ
@@ -17,16 +21,19 @@ pub record Metered (h : Sheet) (imports exports : List ℕ) : Type 0 where
   pub took : (a : ℕ) → a < mostAgents → at imports a ≡ imported h a
   pub gave : (a : ℕ) → a < mostAgents → at exports a ≡ exported h a
 
--- the same of n agents, with their kinds and consumptions
-pub record Read (h : Sheet) (n : ℕ) (kinds imports exports consumptions : List ℕ) : Type 0 where
-  pub count : agents h ≡ n
-  pub kind : Filled 0 zeros kinds n (at (h .kinds))
-  pub took : (a : ℕ) → a < n → at imports a ≡ imported h a
-  pub gave : (a : ℕ) → a < n → at exports a ≡ exported h a
-  pub used : Filled 0 zeros consumptions n (consumption h)
+-- by their columns the kinds of n agents, what generators took and delivered, and what retailers consumed, in whole kWh; the first
+-- retailer that delivers more than it takes
+pub record Read (h : Sheet) (n : ℕ) (k₀ k t₀ t g₀ g u₀ u : List ℕ) (x : ℕ) : Type 0 where
+  pub kinds : Filled 0 k₀ k n (at (h .kinds))
+  pub taken : Filled 0 t₀ t n (ownImport h)
+  pub given : Filled 0 g₀ g n (delivered h)
+  pub used : Filled 0 u₀ u n (consumption h)
+  pub over : x ≡ firstOver h
 
--- and with what generators took and delivered in whole kWh
-pub record Sides (h : Sheet) (n : ℕ) (kinds imports exports taken given consumptions : List ℕ) : Type 0 where
-  pub read : Read h n kinds imports exports consumptions
-  pub own : Filled 0 zeros taken n (ownImport h)
-  pub out : Filled 0 zeros given n (delivered h)
+-- refusals 7 to 9 by the numbers that they are judged by
+abbrev pub weighedBy : (n over entering leaving consumed : ℕ) → Verdict
+weighedBy n o e l u =
+    firstOf (refusedUnless (leb n o) badExports o
+    ∷ refusedUnless (leb l e) badGain 0
+    ∷ refusedUnless (eqb (e - l) 0 || ltb 0 u) unshared 0
+    ∷ [])

@@ -9,7 +9,7 @@ ghost use mathlib.Core.Path.{_≡_};
 ghost use mathlib.Core.Bool.{_&&_, _||_, not};
 ghost use Prim.Native.Nat.{ℕ, _+_, _-_, _≤_, _<_};
 ghost use lib.Dec.{ltb, eqb};
-ghost use lib.ListN.{length};
+ghost use lib.ListN.{length, take};
 ghost use Rattle.sums.specs.Sums.{sum, pick, first};
 ghost use Rattle.sums.specs.Lists.{at, Filled};
 ghost use Rattle.refusals.specs.Refusals.{cells};
@@ -18,11 +18,11 @@ ghost use Rattle.rows.specs.Rows.{carriesLosses, isOutside};
 ghost use Rattle.sheet.specs.Reading.{readOf};
 ghost use Rattle.sheet.specs.declared.Reading.{Reading};
 ghost use Rattle.columns.specs.Columns.{columnsOf};
-ghost use Rattle.hour.specs.Sheet.{Sheet, agents};
+ghost use Rattle.share.specs.Share.{Shared};
 ghost use Rattle.hour.specs.Balance.{referred, rounded};
 ghost use Rattle.hour.specs.Answer.{balanceVerdict};
-ghost use Rattle.balance.specs.Balances.{zeros, nothing, Balances, Weighed};
-ghost use Rattle.balance.specs.Parts.{mostExact, Metered, Read, Sides};
+ghost use Rattle.balance.specs.Balances.{zeros, nothing, ledger, Weighing, Balances, Weighed};
+ghost use Rattle.balance.specs.Parts.{mostExact, Metered, Read, weighedBy};
 
 // A sheet's balance, agent by agent, with the counts that reading gave. A refused one is all zeros.
 pub struct Balance {
@@ -37,6 +37,14 @@ pub struct Balance {
     pub losses: u32,
     pub demand: u32,
     // What central dispatch has to meet of the demand.
+    pub target: u32,
+}
+
+// What weighing answers beside the columns. A refused sheet has 0.
+pub struct Weight {
+    pub verdict: Verdict,
+    pub losses: u32,
+    pub demand: u32,
     pub target: u32,
 }
 
@@ -153,34 +161,37 @@ fn generators(kinds: &[u32; Agent::MOST], values: &[u64; Agent::MOST], n: usize,
     }
 }
 
-// A small generator's exports; nothing of any other agent.
-fn small_exports(
-    kinds: &[u32; Agent::MOST],
-    exports: &[u32; Agent::MOST],
-    n: usize,
-    out: &mut [u32],
-)
+// A small generator's exports are kept; nothing of any other agent.
+fn keep_small(kinds: &[u32; Agent::MOST], n: usize, out: &mut [u32])
     requires { ⌜ (n ≤ mostAgents) × (n ≤ length (now out)) ⌝ }
-    ensures { λ _. ⌜ Filled 0 (now (out .entry)) (now (out .exit)) n (λ a. pick (isOutside (at (now (kinds .entry)) a)) (at (now (exports .entry)) a)) ⌝ }
+    ensures { λ _. ⌜ Filled 0 (now (out .entry)) (now (out .exit)) n (λ a. pick (isOutside (at (now (kinds .entry)) a)) (at (now (out .entry)) a)) ⌝ }
 {
     let mut a = 0;
     while a < n {
-        out[a] = of_small(kinds[a], exports[a]);
+        out[a] = of_small(kinds[a], out[a]);
         a += 1;
     }
 }
 
-// Two columns added.
-fn added(xs: &[u32; Agent::MOST], ys: &[u32; Agent::MOST], n: usize, out: &mut [u32])
+// Adds a column to another.
+fn add_to(xs: &[u32; Agent::MOST], n: usize, out: &mut [u32])
     requires { ⌜ (n ≤ mostAgents) × (n ≤ length (now out)) ⌝ }
-    requires { ⌜ ((a : ℕ) → a < n → at (now xs) a + at (now ys) a ≤ 4294967295) ⌝ }
-    ensures { λ _. ⌜ Filled 0 (now (out .entry)) (now (out .exit)) n (λ a. at (now (xs .entry)) a + at (now (ys .entry)) a) ⌝ }
+    requires { ⌜ ((a : ℕ) → a < n → at (now out) a + at (now xs) a ≤ 4294967295) ⌝ }
+    ensures { λ _. ⌜ Filled 0 (now (out .entry)) (now (out .exit)) n (λ a. at (now (out .entry)) a + at (now (xs .entry)) a) ⌝ }
 {
     let mut a = 0;
     while a < n {
-        out[a] = xs[a] + ys[a];
+        out[a] = out[a] + xs[a];
         a += 1;
     }
+}
+
+// An amount over the first n cells of a column.
+fn share_out(amount: u32, weights: &[u32], n: usize, out: &mut [u32]) -> Verdict
+    requires { ⌜ n ≤ length (now weights) ⌝ }
+    ensures { λ r. ⌜ Shared amount (take n (now (weights .entry))) (now (out .entry)) r (now (out .exit)) ⌝ }
+{
+    share::share(amount, &weights[..n], out)
 }
 
 // The sum of a column's first n cells.
@@ -232,25 +243,13 @@ fn carried(losses: u32, consumed: u32) -> bool
 }
 
 // Refusals 7 to 9, in this order.
-fn judge(
-    kinds: &[u32; Agent::MOST],
-    imports: &[u64; Agent::MOST],
-    exports: &[u64; Agent::MOST],
-    taken: &[u32; Agent::MOST],
-    delivered: &[u32; Agent::MOST],
-    consumption: &[u32; Agent::MOST],
-    n: usize,
-) -> Verdict
-    requires { ⌜ (n ≤ mostAgents) × (sum n (at (now delivered)) ≤ 4294967295) × (sum n (at (now consumption)) + sum n (at (now taken)) ≤ 4294967295) ⌝ }
-    ensures { λ r. ⌜ ((h : Sheet) → Sides h n (now (kinds .entry)) (now (imports .entry)) (now (exports .entry)) (now (taken .entry)) (now (delivered .entry)) (now (consumption .entry)) → r ≡ balanceVerdict h) ⌝ }
+fn judge(over: usize, n: usize, entering: u32, leaving: u32, consumed: u32) -> Verdict
+    requires { ⌜ n ≤ mostAgents ⌝ }
+    ensures { λ r. ⌜ r ≡ weighedBy n over entering leaving consumed ⌝ }
 {
-    let over = first_over(kinds, imports, exports, n);
     if over < n {
         return refusals::refuse(Refusal::EXPORTS, over as u32);
     }
-    let entering = total(delivered, n);
-    let consumed = total(consumption, n);
-    let leaving = consumed + total(taken, n);
     if entering < leaving {
         return refusals::refuse(Refusal::GAIN, 0);
     }
@@ -282,79 +281,68 @@ fn turned_away(verdict: Verdict) -> Balance
     }
 }
 
-// What each agent is, took, delivered and consumed, each into its column.
+// What each agent is, took, delivered and consumed in whole kWh, each into its column; the first retailer that delivers more than it
+// takes, or n. The exact columns are gone when it is done.
 fn read_columns(
     s: &[u8],
     c: Counts,
-    kinds: &mut [u32],
-    imports: &mut [u64],
-    exports: &mut [u64],
-    consumption: &mut [u32],
-)
+    kinds: &mut [u32; Agent::MOST],
+    taken: &mut [u32; Agent::MOST],
+    given: &mut [u32; Agent::MOST],
+    used: &mut [u32; Agent::MOST],
+) -> usize
     requires { ⌜ readOf (now s) ≡ Reading.Accepted c ⌝ }
-    requires { ⌜ (now kinds ≡ zeros) × (now imports ≡ zeros) × (now exports ≡ zeros) × (now consumption ≡ zeros) ⌝ }
-    ensures { λ _. ⌜ Read (columnsOf (now (s .entry)) c) (c .agents) (now (kinds .exit)) (now (imports .exit)) (now (exports .exit)) (now (consumption .exit)) ⌝ }
-{
-    kinds_of(s, c, kinds);
-    meter(s, c, imports, exports);
-    consumptions(kinds, imports, exports, c.agents, consumption);
-}
-
-// The balance of a sheet that reading accepts with these counts.
-fn weigh_read(s: &[u8], c: Counts) -> Balance
-    requires { ⌜ readOf (now s) ≡ Reading.Accepted c ⌝ }
-    ensures { λ r. ⌜ Balances (balanceVerdict (columnsOf (now (s .entry)) c)) c (columnsOf (now (s .entry)) c) r ⌝ }
+    ensures { λ r. ⌜ Read (columnsOf (now (s .entry)) c) (c .agents) (now (kinds .entry)) (now (kinds .exit)) (now (taken .entry)) (now (taken .exit)) (now (given .entry)) (now (given .exit)) (now (used .entry)) (now (used .exit)) r ⌝ }
 {
     let n = c.agents;
-    let mut kinds = [0u32; Agent::MOST];
     let mut imports = [0u64; Agent::MOST];
     let mut exports = [0u64; Agent::MOST];
-    let mut consumption = [0u32; Agent::MOST];
-    read_columns(
-        s,
-        c,
-        &mut kinds,
-        &mut imports,
-        &mut exports,
-        &mut consumption,
-    );
-    let mut taken = [0u32; Agent::MOST];
-    generators(&kinds, &imports, n, &mut taken);
-    let mut delivered = [0u32; Agent::MOST];
-    generators(&kinds, &exports, n, &mut delivered);
-    let verdict = judge(
-        &kinds,
-        &imports,
-        &exports,
-        &taken,
-        &delivered,
-        &consumption,
-        n,
-    );
+    kinds_of(s, c, kinds);
+    meter(s, c, &mut imports, &mut exports);
+    consumptions(kinds, &imports, &exports, n, used);
+    generators(kinds, &imports, n, taken);
+    generators(kinds, &exports, n, given);
+    first_over(kinds, &imports, &exports, n)
+}
+
+// The balance of a sheet that reading accepts with these counts, agent by agent, into the caller's columns; each of them serves for what
+// leads to it before it has what is promised, so that of a refused sheet nothing is said of them.
+pub fn weigh_read(
+    s: &[u8],
+    c: Counts,
+    kinds: &mut [u32; Agent::MOST],
+    shares: &mut [u32; Agent::MOST],
+    commercial: &mut [u32; Agent::MOST],
+    own: &mut [u32; Agent::MOST],
+    imports: &mut [u32; Agent::MOST],
+) -> Weight
+    requires { ⌜ readOf (now s) ≡ Reading.Accepted c ⌝ }
+    ensures { λ r. ⌜ Weighing (columnsOf (now (s .entry)) c) (ledger (now (kinds .entry)) (now (shares .entry)) (now (commercial .entry)) (now (own .entry)) (now (imports .entry))) (ledger (now (kinds .exit)) (now (shares .exit)) (now (commercial .exit)) (now (own .exit)) (now (imports .exit))) r ⌝ }
+{
+    let n = c.agents;
+    let over = read_columns(s, c, kinds, imports, own, commercial);
+    let entering = total(own, n);
+    let consumed = total(commercial, n);
+    let taken = total(imports, n);
+    let leaving = consumed + taken;
+    let verdict = judge(over, n, entering, leaving, consumed);
     let Verdict::Fine = verdict else {
-        return turned_away(verdict);
+        return Weight {
+            verdict,
+            losses: 0,
+            demand: 0,
+            target: 0,
+        };
     };
-    let entering = total(&delivered, n);
-    let leaving = total(&consumption, n) + total(&taken, n);
     let losses = entering - leaving;
-    let mut shares = [0u32; Agent::MOST];
-    share::share(losses, &consumption[..n], &mut shares);
-    let mut commercial = [0u32; Agent::MOST];
-    added(&consumption, &shares, n, &mut commercial);
-    let demand = total(&commercial, n) + total(&taken, n);
-    let mut injected = [0u32; Agent::MOST];
-    small_exports(&kinds, &delivered, n, &mut injected);
-    let mut own = [0u32; Agent::MOST];
-    added(&commercial, &injected, n, &mut own);
-    let target = demand - total(&injected, n);
-    Balance {
+    share_out(losses, commercial, n, shares);
+    add_to(shares, n, commercial);
+    let demand = total(commercial, n) + taken;
+    keep_small(kinds, n, own);
+    let target = demand - total(own, n);
+    add_to(commercial, n, own);
+    Weight {
         verdict,
-        counts: c,
-        kinds,
-        shares,
-        commercial,
-        own,
-        imports: taken,
         losses,
         demand,
         target,
@@ -366,7 +354,43 @@ pub fn weigh(s: &[u8]) -> Balance
     ensures { λ r. ⌜ Weighed (now (s .entry)) r ⌝ }
 {
     match sheet::read(s) {
-        Reading::Accepted(c) => weigh_read(s, c),
+        Reading::Accepted(c) => balance_of(s, c),
         Reading::Refused(why) => turned_away(Verdict::Refused(why)),
+    }
+}
+
+fn balance_of(s: &[u8], c: Counts) -> Balance
+    requires { ⌜ readOf (now s) ≡ Reading.Accepted c ⌝ }
+    ensures { λ r. ⌜ Balances (balanceVerdict (columnsOf (now (s .entry)) c)) c (columnsOf (now (s .entry)) c) r ⌝ }
+{
+    let mut kinds = [0u32; Agent::MOST];
+    let mut shares = [0u32; Agent::MOST];
+    let mut commercial = [0u32; Agent::MOST];
+    let mut own = [0u32; Agent::MOST];
+    let mut imports = [0u32; Agent::MOST];
+    let w = weigh_read(
+        s,
+        c,
+        &mut kinds,
+        &mut shares,
+        &mut commercial,
+        &mut own,
+        &mut imports,
+    );
+    let verdict = w.verdict;
+    let Verdict::Fine = verdict else {
+        return turned_away(verdict);
+    };
+    Balance {
+        verdict,
+        counts: c,
+        kinds,
+        shares,
+        commercial,
+        own,
+        imports,
+        losses: w.losses,
+        demand: w.demand,
+        target: w.target,
     }
 }

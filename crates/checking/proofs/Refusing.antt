@@ -8,24 +8,25 @@ use lib.ListN.{length}
 use borrow.Author.Tests.{le-leb, lt-leb}
 use Rattle.sums.specs.Sums.{sum}
 use Rattle.sums.specs.Lists.{at, Filled}
-use Rattle.refusals.specs.Refusals.{uncovered, overrun, noRoom, refused, orElse, firstOf}
+use Rattle.refusals.specs.Refusals.{uncovered, overrun, noRoom, refused}
 use Rattle.refusals.specs.declared.Refusal.{Refusal}
 use Rattle.refusals.specs.declared.Verdict.{Verdict}
-use Rattle.refusals.proofs.Fine.{not-fine, both-fine, AllFine, fine-parts, else-fine}
+use Rattle.refusals.proofs.Fine.{AllFine, fine-parts, else-fine}
 use Rattle.sheet.specs.Reading.{readOf, readVerdict, countsOf}
+use Rattle.sheet.specs.declared.Counts.{Counts}
 use Rattle.sheet.specs.declared.Reading.{Reading}
+use Rattle.sheet.proofs.Accepted.{accepted-counts, accepted-fine, refused-verdict}
 use Rattle.columns.specs.Columns.{columnsOf, hourOf}
 use Rattle.columns.proofs.Columns.{agents-long, plants-long, contracts-long}
-use Rattle.hour.specs.Sheet.{Sheet, agents, plants, contracts}
-use Rattle.hour.specs.Balance.{consumption, ownImport, losses, lossShare, commercial, dispatchDemand}
+use Rattle.hour.specs.Sheet.{Sheet, plants}
+use Rattle.hour.specs.Balance.{commercial, dispatchDemand}
 use Rattle.hour.specs.Answer.{Lent, Roomy, balanceVerdict, coverVerdict, roomVerdict, hourVerdict}
 use Rattle.hour.proofs.Verdicts as verdicts
-use Rattle.balance.specs.Balances.{zeros, weighVerdict, Weighed}
-use Rattle.balance.specs.declared.Balance.{Balance}
-use Rattle.balance.proofs.Weighed.{weighed-counts, weighed-accepted}
+use Rattle.balance.specs.Balances.{zeros, Ledger, Weighing}
+use Rattle.balance.specs.declared.Weight.{Weight}
 use Rattle.statement.specs.Tests.{pointsVerdict}
 use Rattle.checking.specs.Parts.{roomy, judged, Weighs}
-use Rattle.checking.specs.Check.{checkVerdict}
+use Rattle.checking.specs.Check.{statedVerdict, checkVerdict}
 
 -- ---- the ways out of the judgement
 module _ (v : Verdict) (d a m : ℕ) (room : Bool) (e : v ≡ Verdict.Fine) where
@@ -42,116 +43,81 @@ module _ (v : Verdict) (d a m : ℕ) (room : Bool) (e : v ≡ Verdict.Fine) wher
     pub judged-fine : m ≤ d → room ≡ true → judged v d a m room ≡ Verdict.Fine
     judged-fine h r = rw (e, le-leb d a l, le-leb m d h, r)
 
--- the refusals of the sheet, in order
-abbrev sheetVerdict : List ℕ → Lent → Verdict
-sheetVerdict bytes l = orElse (readVerdict bytes) (hourVerdict (hourOf bytes) l)
-
-module _ (bytes : List ℕ) (l : Lent) (b : Balance) (w : Weighed bytes b) where
+-- the verdict of the weighing, and then refusals 10, 13 and 11 by the sheet's own demand
+module _ (bytes : List ℕ) (c : Counts) (l : Lent) (before after : Ledger) (b : Weight)
+    (w : Weighing (columnsOf bytes c) before after b) where
   abbrev sheet : Sheet
-  sheet = columnsOf bytes (b .counts)
+  sheet = columnsOf bytes c
 
   abbrev room : Bool
   room =
-      roomy (b .counts .agents) (b .counts .plants) (b .counts .contracts) (length (l .figures)) (length (l .money))
-      (length (l .schedule)) (length (l .amounts))
+      roomy (c .agents) (c .plants) (c .contracts) (length (l .figures)) (length (l .money)) (length (l .schedule))
+      (length (l .amounts))
 
   verdict-is : judged (b .verdict) (b .target) (sum (plants sheet) (at (sheet .available)))
-      (sum (plants sheet) (at (sheet .mustRun))) room ≡ sheetVerdict bytes l
-  unfolding hourVerdict coverVerdict roomVerdict weighVerdict hourOf
-  verdict-is = go (readVerdict bytes) (balanceVerdict (hourOf bytes)) refl refl
+      (sum (plants sheet) (at (sheet .mustRun))) room ≡ hourVerdict sheet l
+  unfolding hourVerdict coverVerdict roomVerdict
+  verdict-is = go (balanceVerdict sheet) refl
     where
-      go : (u v : Verdict) → readVerdict bytes ≡ u → balanceVerdict (hourOf bytes) ≡ v
+      go : (v : Verdict) → balanceVerdict sheet ≡ v
           → judged (b .verdict) (b .target) (sum (plants sheet) (at (sheet .available)))
-          (sum (plants sheet) (at (sheet .mustRun))) room ≡ sheetVerdict bytes l
-      go (Verdict.Refused q) v e f = rw (w .answer, e)
-      go Verdict.Fine (Verdict.Refused q) e f = rw (w .answer, e, f)
-      go Verdict.Fine Verdict.Fine e f =
-          let fine : weighVerdict bytes ≡ Verdict.Fine = rw (e, f) in
-          let c : b .counts ≡ countsOf bytes = weighed-counts bytes b w fine in
-          let d : b .target ≡ dispatchDemand (hourOf bytes) = rw fine at (w .target) in
-          rw (
-            w .answer,
-            fine,
-            d,
-            c,
-            e,
-            f,
-            agents-long bytes (countsOf bytes),
-            plants-long bytes (countsOf bytes),
-            contracts-long bytes (countsOf bytes),
-          )
+          (sum (plants sheet) (at (sheet .mustRun))) room ≡ hourVerdict sheet l
+      go (Verdict.Refused q) e = rw (w .answer, e)
+      go Verdict.Fine e =
+          let d : b .target ≡ dispatchDemand sheet = rw e at (w .target) in
+          rw (w .answer, e, d, agents-long bytes c, plants-long bytes c, contracts-long bytes c)
 
   module _ (price : ℕ) (v : Verdict)
       (same : v ≡ judged (b .verdict) (b .target) (sum (plants sheet) (at (sheet .available)))
       (sum (plants sheet) (at (sheet .mustRun))) room) where
-    tells : sheetVerdict bytes l ≡ v
+    tells : hourVerdict sheet l ≡ v
     tells = sym (same ∙ verdict-is)
 
     -- a refusal of the sheet is the answer
-    pub turned : (q : Refusal) → v ≡ Verdict.Refused q → checkVerdict bytes price l ≡ Verdict.Refused q
-    unfolding checkVerdict
-    turned q e = go (readVerdict bytes) (hourVerdict (hourOf bytes) l) (tells ∙ e)
-      where
-        go : (x y : Verdict) → orElse x y ≡ Verdict.Refused q
-            → orElse x (orElse y (orElse (pointsVerdict (hourOf bytes) price l) Verdict.Fine)) ≡ Verdict.Refused q
-        go Verdict.Fine Verdict.Fine t = not-fine q (sym t)
-        go Verdict.Fine (Verdict.Refused y) t = t
-        go (Verdict.Refused x) y t = t
+    pub turned : (q : Refusal) → v ≡ Verdict.Refused q → statedVerdict sheet price l ≡ Verdict.Refused q
+    unfolding statedVerdict
+    turned q e = let t : hourVerdict sheet l ≡ Verdict.Refused q = tells ∙ e in rw t
 
     -- ---- an hour that nothing turns away
     module _ (fine : v ≡ Verdict.Fine) where
-      parts : (readVerdict bytes ≡ Verdict.Fine) × (hourVerdict (hourOf bytes) l ≡ Verdict.Fine)
-      parts = both-fine (readVerdict bytes) (hourVerdict (hourOf bytes) l) (tells ∙ fine)
-
-      tests : AllFine (balanceVerdict (hourOf bytes) ∷ coverVerdict (hourOf bytes) ∷ roomVerdict (hourOf bytes) l ∷ [])
+      tests : AllFine (balanceVerdict sheet ∷ coverVerdict sheet ∷ roomVerdict sheet l ∷ [])
       unfolding hourVerdict
-      tests =
-          fine-parts (balanceVerdict (hourOf bytes) ∷ coverVerdict (hourOf bytes) ∷ roomVerdict (hourOf bytes) l ∷ [])
-          (parts .1)
-
-      weight : weighVerdict bytes ≡ Verdict.Fine
-      unfolding weighVerdict
-      weight = rw (parts .0) (tests .0)
-
-      sheet-is : sheet ≡ hourOf bytes
-      unfolding hourOf
-      sheet-is = rw (weighed-counts bytes b w weight)
+      tests = fine-parts (balanceVerdict sheet ∷ coverVerdict sheet ∷ roomVerdict sheet l ∷ []) (tells ∙ fine)
 
       -- the points are all that is left
-      pub points-left : checkVerdict bytes price l ≡ pointsVerdict sheet price l
-      unfolding checkVerdict
-      points-left = rw (parts .0, parts .1, ← sheet-is) (else-fine _)
-
-      pub read-is : readOf bytes ≡ Reading.Accepted (b .counts)
-      read-is = weighed-accepted bytes b w (w .answer ∙ weight)
+      pub points-left : statedVerdict sheet price l ≡ pointsVerdict sheet price l
+      unfolding statedVerdict
+      points-left = let t : hourVerdict sheet l ≡ Verdict.Fine = tells ∙ fine in rw t (else-fine _)
 
       pub room-is : Roomy sheet l
-      room-is = rw sheet-is (verdicts.roomy (hourOf bytes) l (tests .1 .1 .0))
-
-      count : agents (hourOf bytes) ≡ b .counts .agents
-      count = rw (sym sheet-is) (agents-long bytes (b .counts))
+      room-is = verdicts.roomy sheet l (tests .1 .1 .0)
 
       -- commercial demand less share is consumption; own energy less commercial demand is what a small generator delivers
-      pub weighs : (us js : List ℕ) → Filled 0 zeros us (b .counts .agents) (λ a. at (b .commercial) a - at (b .shares) a)
-          → Filled 0 zeros js (b .counts .agents) (λ a. at (b .own) a - at (b .commercial) a)
-          → Weighs sheet (b .kinds) us (b .imports) js (b .losses)
+      pub weighs : (us js : List ℕ) → Filled 0 zeros us (c .agents) (λ a. at (after .commercial) a - at (after .shares) a)
+          → Filled 0 zeros js (c .agents) (λ a. at (after .own) a - at (after .commercial) a)
+          → Weighs sheet (after .kinds) us (after .imports) js (b .losses)
       unfolding commercial
       weighs us js f g =
-          rw sheet-is
-          (record {
-            kinds = (rw weight at (w .kinds)) .done;
-            used =
-                λ a h. f .done a (omega (arith, count)) ∙ omega (
-                  arith,
-                  (rw weight at (w .commercial)) .done a h,
-                  (rw weight at (w .shares)) .done a h,
-                );
-            imports = (rw weight at (w .imports)) .done;
-            injects =
-                λ a h. g .done a (omega (arith, count)) ∙ omega (
-                  arith,
-                  (rw weight at (w .own)) .done a h,
-                  (rw weight at (w .commercial)) .done a h,
-                );
-            losses = rw weight at (w .losses);
-          })
+          let p = w .columns (tests .0) in
+          let n = agents-long bytes c in
+          record {
+            kinds = p .kinds .done;
+            used = λ a h. f .done a (omega (arith, n)) ∙ omega (arith, p .commercial .done a h, p .shares .done a h);
+            imports = p .imports .done;
+            injects = λ a h. g .done a (omega (arith, n)) ∙ omega (arith, p .own .done a h, p .commercial .done a h);
+            losses = rw (tests .0) at (w .losses);
+          }
+
+-- ---- from reading to the bytes
+module _ (bytes : List ℕ) (price : ℕ) (l : Lent) where
+  pub checked-read : (c : Counts) → readOf bytes ≡ Reading.Accepted c
+      → statedVerdict (columnsOf bytes c) price l ≡ checkVerdict bytes price l
+  unfolding statedVerdict checkVerdict hourOf
+  checked-read c e =
+      let k : c ≡ countsOf bytes = accepted-counts bytes c e in
+      let v : readVerdict bytes ≡ Verdict.Fine = accepted-fine bytes c e in
+      rw (v, k)
+
+  pub checked-refused : (q : Refusal) → readOf bytes ≡ Reading.Refused q → Verdict.Refused q ≡ checkVerdict bytes price l
+  unfolding checkVerdict
+  checked-refused q e = let v : readVerdict bytes ≡ Verdict.Refused q = refused-verdict bytes q e in rw v

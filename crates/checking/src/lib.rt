@@ -4,6 +4,7 @@ use refusals::Refusal;
 use refusals::Verdict;
 use rows::Agent;
 use sheet::Counts;
+use sheet::Reading;
 
 mod admitted;
 mod amounts;
@@ -23,7 +24,7 @@ ghost use Rattle.columns.specs.Columns.{columnsOf};
 ghost use Rattle.hour.specs.Answer.{Roomy};
 ghost use Rattle.statement.specs.Tests.{pointsVerdict};
 ghost use Rattle.checking.specs.Parts.{Weighs, Demands, tradeVerdict};
-ghost use Rattle.checking.specs.Check.{stated, checkVerdict};
+ghost use Rattle.checking.specs.Check.{stated, statedVerdict, checkVerdict};
 
 // Points 22 to 25, on the demands that their shares make.
 fn trades(
@@ -110,31 +111,40 @@ fn points(
     )
 }
 
-// Checks a statement of the hour of a sheet, for every string of bytes and lists of every length.
-pub fn check(
+// Checks a statement of the hour of a sheet that reading accepts with these counts.
+fn check_read(
     bytes: &[u8],
+    c: Counts,
     price: u32,
     figures: &[u32],
     money: &[i64],
     schedule: &[u32],
     amounts: &[u32],
 ) -> Verdict
-    ensures { λ r. ⌜ r ≡ checkVerdict (now (bytes .entry)) price (stated (now (figures .entry)) (now (money .entry)) (now (schedule .entry)) (now (amounts .entry))) ⌝ }
+    requires { ⌜ readOf (now bytes) ≡ Reading.Accepted c ⌝ }
+    ensures { λ r. ⌜ r ≡ statedVerdict (columnsOf (now (bytes .entry)) c) price (stated (now (figures .entry)) (now (money .entry)) (now (schedule .entry)) (now (amounts .entry))) ⌝ }
 {
-    let b = balance::weigh(bytes);
-    let c = b.counts;
+    let mut kinds = [0u32; Agent::MOST];
+    let mut ours = [0u32; Agent::MOST];
+    let mut commercial = [0u32; Agent::MOST];
+    let mut own = [0u32; Agent::MOST];
+    let mut imports = [0u32; Agent::MOST];
+    let w = balance::weigh_read(
+        bytes,
+        c,
+        &mut kinds,
+        &mut ours,
+        &mut commercial,
+        &mut own,
+        &mut imports,
+    );
+    let weighed = w.verdict;
+    let target = w.target;
     let room = admitted::has_room(c, figures.len(), money.len(), schedule.len(), amounts.len());
-    let weighed = b.verdict;
-    let target = b.target;
     let verdict = admitted::judge(bytes, c, weighed, target, room);
     let Verdict::Fine = verdict else {
         return verdict;
     };
-    let kinds = b.kinds;
-    let imports = b.imports;
-    let commercial = b.commercial;
-    let ours = b.shares;
-    let own = b.own;
     let mut used = [0u32; Agent::MOST];
     shares::differences(&commercial, &ours, c.agents, &mut used);
     let mut injected = [0u32; Agent::MOST];
@@ -146,11 +156,28 @@ pub fn check(
         &used,
         &imports,
         &injected,
-        b.losses,
+        w.losses,
         price,
         figures,
         money,
         schedule,
         amounts,
     )
+}
+
+// Checks a statement of the hour of a sheet, for every string of bytes and lists of every length.
+pub fn check(
+    bytes: &[u8],
+    price: u32,
+    figures: &[u32],
+    money: &[i64],
+    schedule: &[u32],
+    amounts: &[u32],
+) -> Verdict
+    ensures { λ r. ⌜ r ≡ checkVerdict (now (bytes .entry)) price (stated (now (figures .entry)) (now (money .entry)) (now (schedule .entry)) (now (amounts .entry))) ⌝ }
+{
+    match sheet::read(bytes) {
+        Reading::Accepted(c) => check_read(bytes, c, price, figures, money, schedule, amounts),
+        Reading::Refused(why) => Verdict::Refused(why),
+    }
 }

@@ -14,21 +14,22 @@ use Rattle.refusals.specs.declared.Refusal.{Refusal}
 use Rattle.refusals.specs.declared.Verdict.{Verdict}
 use Rattle.rows.specs.Limits.{mostAgents}
 use Rattle.sheet.specs.Reading.{readOf, readVerdict, countsOf}
+use Rattle.sheet.specs.declared.Counts.{Counts}
 use Rattle.sheet.specs.declared.Reading.{Reading}
+use Rattle.sheet.proofs.Accepted.{accepted-counts, accepted-fine, refused-verdict}
 use Rattle.columns.specs.Columns.{columnsOf, hourOf}
 use Rattle.columns.proofs.Columns.{agents-long, plants-long, contracts-long}
-use Rattle.hour.specs.Sheet.{Sheet, agents, plants, contracts}
-use Rattle.hour.specs.Balance.{lossShare, commercial, ownImport, losses, demands, hourDemand, dispatchDemand}
+use Rattle.hour.specs.Sheet.{Sheet, agents, plants}
+use Rattle.hour.specs.Balance.{commercial, losses, demands, hourDemand, dispatchDemand}
 use Rattle.hour.specs.Answer.{Lent, Roomy, balanceVerdict, coverVerdict, roomVerdict, hourVerdict}
 use Rattle.hour.specs.declared.Summary.{Summary}
 use Rattle.hour.proofs.Verdicts.{Covers, covered}
 use Rattle.hour.proofs.Verdicts as verdicts
-use Rattle.refusals.proofs.Fine.{both-fine, AllFine, fine-parts}
-use Rattle.balance.specs.Balances.{zeros, unscheduled, weighVerdict, Weighed}
-use Rattle.balance.specs.declared.Balance.{Balance}
-use Rattle.balance.proofs.Weighed.{weighed-counts, weighed-accepted}
+use Rattle.refusals.proofs.Fine.{fine-parts}
+use Rattle.balance.specs.Balances.{zeros, Ledger, Posted, Weighing}
+use Rattle.balance.specs.declared.Weight.{Weight}
 use Rattle.settle.specs.Parts.{turnedAway, roomy, lateVerdict}
-use Rattle.settle.specs.Settled.{lent, verdictOf, Outcome, Settled}
+use Rattle.settle.specs.Settled.{lent, verdictOf, Outcome, Settles, Settled}
 
 -- ---- the ways out of the judgement
 module _ (v : Verdict) (d a m : ℕ) (room : Bool) (e : v ≡ Verdict.Fine) where
@@ -45,95 +46,68 @@ module _ (v : Verdict) (d a m : ℕ) (room : Bool) (e : v ≡ Verdict.Fine) wher
     pub late-fine : m ≤ d → room ≡ true → lateVerdict v d a m room ≡ Verdict.Fine
     late-fine h r = rw (e, le-leb d a l, le-leb m d h, r)
 
--- a refused balance is the hour's refusal; else the counts and the demand are the sheet's, and so are refusals 10, 13 and 11
-module _ (bytes : List ℕ) (l : Lent) (b : Balance) (w : Weighed bytes b) where
+-- the verdict of the weighing, and then refusals 10, 13 and 11 by the sheet's own demand
+module _ (bytes : List ℕ) (c : Counts) (l : Lent) (before after : Ledger) (r : Weight)
+    (w : Weighing (columnsOf bytes c) before after r) where
   abbrev sheet : Sheet
-  sheet = columnsOf bytes (b .counts)
+  sheet = columnsOf bytes c
 
   abbrev room : Bool
   room =
-      roomy (b .counts .agents) (b .counts .plants) (b .counts .contracts) (length (l .figures)) (length (l .money))
-      (length (l .schedule)) (length (l .amounts))
+      roomy (c .agents) (c .plants) (c .contracts) (length (l .figures)) (length (l .money)) (length (l .schedule))
+      (length (l .amounts))
 
-  pub verdict-is : lateVerdict (b .verdict) (b .target) (sum (plants sheet) (at (sheet .available)))
-      (sum (plants sheet) (at (sheet .mustRun))) room ≡ verdictOf bytes l
-  unfolding verdictOf hourVerdict coverVerdict roomVerdict weighVerdict hourOf
-  verdict-is = go (readVerdict bytes) (balanceVerdict (hourOf bytes)) refl refl
+  pub verdict-is : lateVerdict (r .verdict) (r .target) (sum (plants sheet) (at (sheet .available)))
+      (sum (plants sheet) (at (sheet .mustRun))) room ≡ hourVerdict sheet l
+  unfolding hourVerdict coverVerdict roomVerdict
+  verdict-is = go (balanceVerdict sheet) refl
     where
-      go : (u v : Verdict) → readVerdict bytes ≡ u → balanceVerdict (hourOf bytes) ≡ v
-          → lateVerdict (b .verdict) (b .target) (sum (plants sheet) (at (sheet .available)))
-          (sum (plants sheet) (at (sheet .mustRun))) room ≡ verdictOf bytes l
-      go (Verdict.Refused q) v e f = rw (w .answer, e)
-      go Verdict.Fine (Verdict.Refused q) e f = rw (w .answer, e, f)
-      go Verdict.Fine Verdict.Fine e f =
-          let fine : weighVerdict bytes ≡ Verdict.Fine = rw (e, f) in
-          let c : b .counts ≡ countsOf bytes = weighed-counts bytes b w fine in
-          let d : b .target ≡ dispatchDemand (hourOf bytes) = rw fine at (w .target) in
-          rw (
-            w .answer,
-            fine,
-            d,
-            c,
-            e,
-            f,
-            agents-long bytes (countsOf bytes),
-            plants-long bytes (countsOf bytes),
-            contracts-long bytes (countsOf bytes),
-          )
+      go : (v : Verdict) → balanceVerdict sheet ≡ v
+          → lateVerdict (r .verdict) (r .target) (sum (plants sheet) (at (sheet .available)))
+          (sum (plants sheet) (at (sheet .mustRun))) room ≡ hourVerdict sheet l
+      go (Verdict.Refused q) e = rw (w .answer, e)
+      go Verdict.Fine e =
+          let d : r .target ≡ dispatchDemand sheet = rw e at (w .target) in
+          rw (w .answer, e, d, agents-long bytes c, plants-long bytes c, contracts-long bytes c)
 
-  -- ---- an hour that nothing turns away: what was read and weighed is the sheet's
+  -- ---- an hour that nothing turns away: what was weighed is the sheet's
   pub record Open : Type 0 where
-    pub read : readOf bytes ≡ Reading.Accepted (b .counts)
     pub balance : balanceVerdict sheet ≡ Verdict.Fine
     pub cover : Covers sheet
     pub room : Roomy sheet l
-    pub kinds : Filled 0 zeros (b .kinds) (b .counts .agents) (at (sheet .kinds))
-    pub shares : Filled 0 zeros (b .shares) (b .counts .agents) (lossShare sheet)
-    pub commercial : Filled 0 zeros (b .commercial) (b .counts .agents) (commercial sheet)
-    pub own : Filled 0 zeros (b .own) (b .counts .agents) (unscheduled sheet)
-    pub imports : Filled 0 zeros (b .imports) (b .counts .agents) (ownImport sheet)
-    pub losses : b .losses ≡ losses sheet
-    pub demand : b .demand ≡ hourDemand sheet
-    pub target : b .target ≡ dispatchDemand sheet
+    pub columns : Posted sheet before after
+    pub losses : r .losses ≡ losses sheet
+    pub demand : r .demand ≡ hourDemand sheet
+    pub target : r .target ≡ dispatchDemand sheet
 
-  module _ (fine : verdictOf bytes l ≡ Verdict.Fine) where
-    parts : (readVerdict bytes ≡ Verdict.Fine) × (hourVerdict (hourOf bytes) l ≡ Verdict.Fine)
-    unfolding verdictOf
-    parts = both-fine (readVerdict bytes) (hourVerdict (hourOf bytes) l) fine
+  pub opened : hourVerdict sheet l ≡ Verdict.Fine → Open
+  unfolding hourVerdict
+  opened fine =
+      let tests = fine-parts (balanceVerdict sheet ∷ coverVerdict sheet ∷ roomVerdict sheet l ∷ []) fine in
+      record {
+        balance = tests .0;
+        cover = covered sheet (tests .1 .0);
+        room = verdicts.roomy sheet l (tests .1 .1 .0);
+        columns = w .columns (tests .0);
+        losses = rw (tests .0) at (w .losses);
+        demand = rw (tests .0) at (w .demand);
+        target = rw (tests .0) at (w .target);
+      }
 
-    tests : AllFine (balanceVerdict (hourOf bytes) ∷ coverVerdict (hourOf bytes) ∷ roomVerdict (hourOf bytes) l ∷ [])
-    unfolding hourVerdict
-    tests =
-        fine-parts (balanceVerdict (hourOf bytes) ∷ coverVerdict (hourOf bytes) ∷ roomVerdict (hourOf bytes) l ∷ [])
-        (parts .1)
+-- ---- from reading to the bytes
+pub settled-read : (bytes : List ℕ) (c : Counts) (before after : Lent) (r : Summary)
+    → readOf bytes ≡ Reading.Accepted c
+    → Settles (columnsOf bytes c) before after r
+    → Settled bytes before after r
+unfolding verdictOf hourOf
+settled-read bytes c before after r e o =
+    let k : c ≡ countsOf bytes = accepted-counts bytes c e in
+    let v : readVerdict bytes ≡ Verdict.Fine = accepted-fine bytes c e in
+    rw v (rw k at o)
 
-    weight : weighVerdict bytes ≡ Verdict.Fine
-    unfolding weighVerdict
-    weight = rw (parts .0) (tests .0)
-
-    -- the sheet is the one that the bytes hold
-    pub sheet-is : sheet ≡ hourOf bytes
-    unfolding hourOf
-    sheet-is = rw (weighed-counts bytes b w weight)
-
-    pub opened : Open
-    opened =
-        let h = sheet-is in
-        let n : agents (hourOf bytes) ≡ b .counts .agents = rw (sym h) (agents-long bytes (b .counts)) in
-        record {
-          read = weighed-accepted bytes b w (w .answer ∙ weight);
-          balance = rw h (tests .0);
-          cover = rw h (covered (hourOf bytes) (tests .1 .0));
-          room = rw h (verdicts.roomy (hourOf bytes) l (tests .1 .1 .0));
-          kinds = rw h (filled-count 0 _ _ _ _ _ n (rw weight at (w .kinds)));
-          shares = rw h (filled-count 0 _ _ _ _ _ n (rw weight at (w .shares)));
-          commercial = rw h (filled-count 0 _ _ _ _ _ n (rw weight at (w .commercial)));
-          own = rw h (filled-count 0 _ _ _ _ _ n (rw weight at (w .own)));
-          imports = rw h (filled-count 0 _ _ _ _ _ n (rw weight at (w .imports)));
-          losses = rw h (rw weight at (w .losses));
-          demand = rw h (rw weight at (w .demand));
-          target = rw h (rw weight at (w .target));
-        }
+pub refused-read : (bytes : List ℕ) (l : Lent) (q : Refusal) → readOf bytes ≡ Reading.Refused q → verdictOf bytes l ≡ Verdict.Refused q
+unfolding verdictOf
+refused-read bytes l q e = let v : readVerdict bytes ≡ Verdict.Refused q = refused-verdict bytes q e in rw v
 
 pub demands-are : (h : Sheet) (n : ℕ) (l : List ℕ)
     → agents h ≡ n

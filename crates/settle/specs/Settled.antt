@@ -29,6 +29,10 @@ pub record Outcome (v : Verdict) (h : Sheet) (before after : Lent) (r : Summary)
   pub schedule : Filled 0 (before .schedule) (after .schedule) (cells v (plants h)) (scheduled h)
   pub amounts : Filled 0 (before .amounts) (after .amounts) (cells v (contracts h)) (amount h)
 
+-- the same of a sheet that reading accepts
+abbrev pub Settles : (h : Sheet) → (before after : Lent) → Summary → Type 0
+Settles h before after r = Outcome (hourVerdict h before) h before after r
+
 -- the promise of a settlement
 abbrev pub Settled : (bytes : List ℕ) → (before after : Lent) → Summary → Type 0
 Settled bytes before after r = Outcome (verdictOf bytes before) (hourOf bytes) before after r

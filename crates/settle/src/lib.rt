@@ -1,10 +1,11 @@
 // One hour settled: a sheet and four lent lists go in; the summary comes back and the lists are filled, or a refusal and the
-// lists as they were. Everything is lateVerdict before anything is written.
+// lists as they were. Everything is judged before anything is written.
 use hour::Summary;
 use refusals::Refusal;
 use refusals::Verdict;
 use rows::Agent;
 use sheet::Counts;
+use sheet::Reading;
 
 mod agreed;
 mod lines;
@@ -24,7 +25,7 @@ ghost use Rattle.columns.specs.Columns.{columnsOf};
 ghost use Rattle.hour.specs.Sheet.{plants};
 ghost use Rattle.balance.specs.Balances.{zeros};
 ghost use Rattle.settle.specs.Parts.{Covered, Demanding, Trades, turnedAway, roomy, lateVerdict};
-ghost use Rattle.settle.specs.Settled.{lent, Settled};
+ghost use Rattle.settle.specs.Settled.{lent, Settles, Settled};
 
 fn turned_away(r: Refusal) -> Summary
     ensures { λ s. ⌜ s ≡ turnedAway r ⌝ }
@@ -91,32 +92,45 @@ fn trade(
     plants::generate(bytes, c, target, schedule, own)
 }
 
-// Settles the hour of a sheet, for every string of bytes and lists of every length.
-pub fn settle(
+// Settles the hour of a sheet that reading accepts with these counts.
+fn settle_read(
     bytes: &[u8],
+    c: Counts,
     figures: &mut [u32],
     money: &mut [i64],
     schedule: &mut [u32],
     amounts: &mut [u32],
 ) -> Summary
-    ensures { λ r. ⌜ Settled (now (bytes .entry)) (lent (now (figures .entry)) (now (money .entry)) (now (schedule .entry)) (now (amounts .entry))) (lent (now (figures .exit)) (now (money .exit)) (now (schedule .exit)) (now (amounts .exit))) r ⌝ }
+    requires { ⌜ readOf (now bytes) ≡ Reading.Accepted c ⌝ }
+    ensures { λ r. ⌜ Settles (columnsOf (now (bytes .entry)) c) (lent (now (figures .entry)) (now (money .entry)) (now (schedule .entry)) (now (amounts .entry))) (lent (now (figures .exit)) (now (money .exit)) (now (schedule .exit)) (now (amounts .exit))) r ⌝ }
 {
-    let b = balance::weigh(bytes);
-    let c = b.counts;
     let n = c.agents;
-    let target = b.target;
+    let mut kinds = [0u32; Agent::MOST];
+    let mut shares = [0u32; Agent::MOST];
+    let mut commercial = [0u32; Agent::MOST];
+    let mut own = [0u32; Agent::MOST];
+    let mut imports = [0u32; Agent::MOST];
+    let w = balance::weigh_read(
+        bytes,
+        c,
+        &mut kinds,
+        &mut shares,
+        &mut commercial,
+        &mut own,
+        &mut imports,
+    );
+    let weighed = w.verdict;
+    let target = w.target;
     let room = has_room(c, figures.len(), money.len(), schedule.len(), amounts.len());
-    let verdict = judge(bytes, c, b.verdict, target, room);
+    let verdict = judge(bytes, c, weighed, target, room);
     if let Verdict::Refused(r) = verdict {
         return turned_away(r);
     }
-    let demands = b.commercial;
-    let mut own = b.own;
     let mut contracted = [0u32; Agent::MOST];
     let price = trade(
         bytes,
         c,
-        &demands[..n],
+        &commercial[..n],
         target,
         &mut own,
         &mut contracted,
@@ -124,10 +138,10 @@ pub fn settle(
         amounts,
     );
     lines::write_lines(
-        &b.kinds,
-        &b.shares,
+        &kinds,
+        &shares,
         &own,
-        &b.imports,
+        &imports,
         &contracted,
         n,
         price,
@@ -138,7 +152,23 @@ pub fn settle(
         number: 0,
         place: 0,
         price,
-        demand: b.demand,
-        losses: b.losses,
+        demand: w.demand,
+        losses: w.losses,
+    }
+}
+
+// Settles the hour of a sheet, for every string of bytes and lists of every length.
+pub fn settle(
+    bytes: &[u8],
+    figures: &mut [u32],
+    money: &mut [i64],
+    schedule: &mut [u32],
+    amounts: &mut [u32],
+) -> Summary
+    ensures { λ r. ⌜ Settled (now (bytes .entry)) (lent (now (figures .entry)) (now (money .entry)) (now (schedule .entry)) (now (amounts .entry))) (lent (now (figures .exit)) (now (money .exit)) (now (schedule .exit)) (now (amounts .exit))) r ⌝ }
+{
+    match sheet::read(bytes) {
+        Reading::Accepted(c) => settle_read(bytes, c, figures, money, schedule, amounts),
+        Reading::Refused(why) => turned_away(why),
     }
 }

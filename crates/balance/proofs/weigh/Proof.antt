@@ -10,11 +10,11 @@ accepted : (c : tie.After-c)
     → readOf ((c .before .before .before .before) .args .s .now) ≡ Reading.Accepted (c .c .given .0 .0)
 accepted c = sym ((c .before .before) .read .ensures) ∙ c .c .given .1
 
-weigh-read-requires : tie.Need-weigh-read-requires
-weigh-read-requires c κs = accepted (c .before)
+balance-of-requires : tie.Need-balance-of-requires
+balance-of-requires c κs = accepted (c .before)
 
 returns : tie.Need-returns
-returns c = weighed-read _ _ _ (accepted (c .before .before)) (c .weigh-read .ensures)
+returns c = weighed-read _ _ _ (accepted (c .before .before)) (c .balance-of .ensures)
 
 returns-2 : tie.Need-returns-2
 returns-2 c =
@@ -25,5 +25,5 @@ returns-2 c =
 pub weigh-spec : {M : Type 1} → statement M
 weigh-spec =
     tie.close
-    (tie.spec (λ c κs. search needs) (λ c. search needs) weigh-read-requires (λ c. search needs)
+    (tie.spec (λ c κs. search needs) (λ c. search needs) balance-of-requires (λ c. search needs)
     (λ c κs. search needs) returns returns-2)
