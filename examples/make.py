@@ -1,5 +1,5 @@
 #!/usr/bin/env python3
-"""Makes the sheets of this folder, and the readable dumps of the worked ones, from the tables below.
+"""Makes the sheets of this folder, the readable dumps of the worked ones, and the texts of sheets and statements, from the tables below.
 
 Run it anywhere: it writes beside itself. The pages (*.page) are not made here: they are what the sheets have to print.
 """
@@ -52,7 +52,36 @@ REASONS = dict(
     ],
 )
 
+# plant 2 is flexible and offers what plant 1 offers: the two stand in either order
+TIES = dict(WORKED_HOUR, plants=[(0, 0, 0, 5000, 700), (3, 0, 0, 8000, 500), (0, 0, 0, 8000, 100)])
+
 EMPTY_HOUR = {section: [] for section in SECTIONS}
+
+# Statements: the price; of each agent loss share, own energy, own import, contracted, bought, sold and money; the schedule of each plant;
+# the amount of each contract. Ours of the worked hour is worked out in docs/USING.md, and the hour with a tie settles alike.
+WORKED_STATEMENT = {
+    "price": 8000,
+    "agent": [
+        (0, 700, 0, 444, 0, 256, 2048000),
+        (32, 532, 0, 532, 0, 0, 0),
+        (28, 468, 0, 500, 0, 32, 256000),
+        (0, 310, 10, 588, 288, 0, -2304000),
+    ],
+    "plant": [(700,), (310,), (0,)],
+    "contract": [(400,), (88,), (44,), (500,)],
+}
+
+# plant 2 goes before plant 1, so agent 0 makes 100 more, which it sells, and agent 3 as much less, which it buys
+OTHER_TIE = dict(
+    WORKED_STATEMENT,
+    agent=[
+        (0, 800, 0, 444, 0, 356, 2848000),
+        (32, 532, 0, 532, 0, 0, 0),
+        (28, 468, 0, 500, 0, 32, 256000),
+        (0, 210, 10, 588, 388, 0, -3104000),
+    ],
+    plant=[(700,), (210,), (100,)],
+)
 
 
 def row_bytes(section, row):
@@ -98,6 +127,57 @@ def dump(sheet):
     return "\n".join(lines) + "\n"
 
 
+WORDS = {"agents": "agent", "boundaries": "boundary", "plants": "plant", "contracts": "contract"}
+
+
+def rows_of(sheet):
+    """Each row as a list: its word, then its numbers."""
+    return [[WORDS[section], *row] for section in SECTIONS for row in sheet[section]]
+
+
+def text(sheet):
+    return "".join(" ".join(map(str, row)) + "\n" for row in rows_of(sheet))
+
+
+def workbook(sheet, title):
+    """The same as a workbook exports it: a line has as many cells as the widest, lines end in CR LF, headings are comments."""
+    lines = [["# " + title]]
+    for section in SECTIONS:
+        lines += [[], ["# " + WORDS[section], *FIELDS[section]]]
+        lines += [[WORDS[section], *row] for row in sheet[section]]
+    return "".join(";".join(map(str, line + [""] * (6 - len(line)))) + "\r\n" for line in lines)
+
+
+def statement_text(stated):
+    lines = [["price", stated["price"]]]
+    lines += [[word, number, *row] for word in ("agent", "plant", "contract") for number, row in enumerate(stated[word])]
+    return "".join(" ".join(map(str, line)) + "\n" for line in lines)
+
+
+def changed(data, old, new):
+    """The text with one place of it changed."""
+    assert data.count(old) == 1, old
+    return data.replace(old, new)
+
+
+def papers():
+    """The texts of this folder, by the names of their files."""
+    typed, stated = text(WORKED_HOUR), statement_text(WORKED_STATEMENT)
+    return {
+        "worked-hour.text": typed,
+        "worked-hour.csv": workbook(WORKED_HOUR, "the hour that document 01 works out"),
+        "march.text": "# March: contract 2 names a retailer as its seller\n\n" + text(MARCH),
+        # a letter in place of a 0
+        "damaged.text": changed(typed, "boundary 3 0 10 410", "boundary 3 0 10 41O"),
+        "worked-hour.statement": stated,
+        # agent 3 is said to have bought a kWh less
+        "changed.statement": changed(stated, "588 288 0", "588 287 0"),
+        # plant 1 is stated twice and plant 2 never
+        "damaged.statement": changed(stated, "plant 2 0", "plant 1 0"),
+        "ties-other.statement": statement_text(OTHER_TIE),
+    }
+
+
 def main():
     (FOLDER / "worked-hour.sheet").write_bytes(sheet_bytes(WORKED_HOUR))
     (FOLDER / "worked-hour.txt").write_text(dump(WORKED_HOUR))
@@ -109,6 +189,9 @@ def main():
     (FOLDER / "reasons.txt").write_text(dump(REASONS))
     (FOLDER / "march.sheet").write_bytes(sheet_bytes(MARCH))
     (FOLDER / "empty-hour.sheet").write_bytes(sheet_bytes(EMPTY_HOUR))
+    (FOLDER / "ties.sheet").write_bytes(sheet_bytes(TIES))
+    for name, content in papers().items():
+        (FOLDER / name).write_bytes(content.encode())
 
 
 if __name__ == "__main__":

@@ -7,7 +7,8 @@
  *
  * It is for x86-64 Linux. It keeps nothing between calls, takes no memory of its own but the stack, and may be called from several
  * threads at once, each with lists of its own. Over the recorded hours settling stays under 11 KiB of stack, a day under 12, a page under
- * 15 and a check under 23, with all symbols bound before; the dynamic linker takes some 3 KiB more where it binds them in the first call.
+ * 15, a check under 23, a sheet's text under 72, a sheet made from it under 12, a statement's text under 45 and reading that under 1, with
+ * all symbols bound before; the dynamic linker takes some 3 KiB more where it binds them in the first call.
  *
  * A list is lent by the place of its first cell and the count of its cells (bytes, for lists of bytes). The place is not NULL, even
  * for a list of no cells, and is aligned as C asks of the cell's type. A list that is written (not const) must not overlap any
@@ -32,6 +33,8 @@
 #define NAOMHRAL_SCHEDULE_MOST 64 /* cells: one for each of 64 plants */
 #define NAOMHRAL_AMOUNTS_MOST 256 /* cells: one for each of 256 contracts */
 #define NAOMHRAL_PAGE_MOST 5120 /* bytes: no page is longer */
+#define NAOMHRAL_SHEET_TEXT_MOST 72960 /* bytes: no sheet's text is longer */
+#define NAOMHRAL_STATEMENT_TEXT_MOST 27547 /* bytes: no statement's text is longer */
 #define NAOMHRAL_WEIGHTS_MOST 256 /* weights that sharing takes */
 #define NAOMHRAL_REPORT_MOST 5424 /* cells: three for each of the 1808 bytes that mending can change */
 #define NAOMHRAL_BOOK 124 /* cells of a day's book: five for each of 24 places, and four totals */
@@ -50,6 +53,9 @@
 #define NAOMHRAL_WHY_ANSWER 8
 #define NAOMHRAL_MEND_ANSWER 3
 #define NAOMHRAL_ENTRY_ANSWER 6
+#define NAOMHRAL_TEXT_ANSWER 3
+#define NAOMHRAL_MAKE_ANSWER 4
+#define NAOMHRAL_READ_STATEMENT_ANSWER 3
 
 /* The refusals. */
 enum {
@@ -74,6 +80,18 @@ enum {
     NAOMHRAL_PRICE_DIFFERS = 23,
     NAOMHRAL_AMOUNTS_DIFFER = 24,
     NAOMHRAL_LINES_DIFFER = 25
+};
+
+/* What is wrong with a line of a text: 30 and the fault's number in docs/FORMAT.md. None of them is a refusal of a sheet. */
+enum {
+    NAOMHRAL_LINE_WORD = 31, /* the first field is no word of the list */
+    NAOMHRAL_LINE_FEW = 32, /* too few numbers */
+    NAOMHRAL_LINE_MANY = 33, /* too many numbers */
+    NAOMHRAL_LINE_NOT_A_NUMBER = 34,
+    NAOMHRAL_LINE_TOO_LARGE = 35, /* a number is too large */
+    NAOMHRAL_LINE_ROWS = 36, /* a row more than a sheet has room for, or that the sheet doesn't have */
+    NAOMHRAL_LINE_TWICE = 37, /* of a statement: a row that stood before */
+    NAOMHRAL_LINE_MISSING = 38 /* of a statement: a row has no line; told with the number of lines */
 };
 
 /* Why a plant is scheduled as it is: the first that holds. */
@@ -277,6 +295,61 @@ uint32_t naomhral_entry(
     size_t figures_length, /* as in naomhral_settle */
     uint32_t *answer, /* number, place, demand, losses, bought, price; the last four are 0 if refused */
     size_t answer_length /* at least 6 */
+);
+
+/* Sheets and statements as text: docs/FORMAT.md has both forms. A text is any bytes; no 0 byte ends it. Lines are told from 1, those
+ * past 4294967295 as that. */
+
+/* Writes the text of a sheet, which naomhral_make_sheet makes into the same sheet again. Refusals 1 to 6, then 11. */
+uint32_t naomhral_sheet_text(
+    const uint8_t *sheet, /* the sheet's bytes */
+    size_t sheet_length, /* how many */
+    uint8_t *out, /* the text */
+    size_t out_length, /* NAOMHRAL_SHEET_TEXT_MOST is always enough */
+    uint32_t *answer, /* number, place, length written (0 if refused) */
+    size_t answer_length /* at least 3 */
+);
+
+/* Makes a sheet from its text: 31 to 36 for the first line that is wrong, then refusals 3 to 6 of what its rows say, then 11. */
+uint32_t naomhral_make_sheet(
+    const uint8_t *text, /* the text's bytes */
+    size_t text_length, /* how many */
+    uint8_t *out, /* the sheet */
+    size_t out_length, /* NAOMHRAL_SHEET_MOST is always enough */
+    uint32_t *answer, /* number, place (the row of 3 to 6, else 0), length written (0 if there is no sheet), and the line of what is
+                         wrong or of the row refused (0 if it is of none) */
+    size_t answer_length /* at least 4 */
+);
+
+/* Settles a sheet and writes the hour as a statement's text. Refusals 1 to 10 and 13, then 11. */
+uint32_t naomhral_statement_text(
+    const uint8_t *sheet, /* the sheet's bytes */
+    size_t sheet_length, /* how many */
+    uint8_t *out, /* the text */
+    size_t out_length, /* NAOMHRAL_STATEMENT_TEXT_MOST is always enough */
+    uint32_t *answer, /* number, place, length written (0 if refused) */
+    size_t answer_length /* at least 3 */
+);
+
+/* Reads a statement's text into a price and four lists, in the shape in which naomhral_check takes them; every row of the sheet has its
+ * line, once. 36 and line 0 if a count is over a sheet's limit or a list is too short for the counts, then 31 to 38 for the first line
+ * that is wrong. Where the number is not 0 the four lists stay as they were. */
+uint32_t naomhral_read_statement(
+    const uint8_t *text, /* the text's bytes */
+    size_t text_length, /* how many */
+    uint32_t agents, /* how many agents the sheet has, as naomhral_read counts them */
+    uint32_t plants, /* how many plants */
+    uint32_t contracts, /* how many contracts */
+    uint32_t *figures, /* six cells an agent */
+    size_t figures_length, /* at least 6 times the agents */
+    int64_t *money, /* one cell an agent, centavos */
+    size_t money_length, /* at least the agents */
+    uint32_t *schedule, /* one cell a plant, kWh */
+    size_t schedule_length, /* at least the plants */
+    uint32_t *amounts, /* one cell a contract, kWh */
+    size_t amounts_length, /* at least the contracts */
+    uint32_t *answer, /* number, line, price; 0, 0 and the price where all is read, else the price is 0 */
+    size_t answer_length /* at least 3 */
 );
 
 #ifdef __cplusplus

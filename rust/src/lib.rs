@@ -15,7 +15,7 @@
 //! }
 //! ```
 //!
-//! [`plain`], [`statement`] and [`fast`] do not call the library: they are what the tests and the benchmark hold it against.
+//! [`plain`], [`plain_text`], [`statement`] and [`fast`] do not call the library: they are what the tests and the benchmark hold it against.
 
 mod answers;
 mod book;
@@ -23,15 +23,18 @@ pub mod fast;
 mod mend;
 pub mod plain;
 pub mod plain_reasons;
+pub mod plain_text;
 pub mod raw;
 mod reasons;
 pub mod sheets;
 pub mod statement;
+mod texts;
 
 pub use answers::{Counts, Refusal, Summary};
 pub use reasons::{why_contract, why_plant, ContractCase, ContractReason, PlantCase, PlantReason};
 pub use book::{entry, Book, Entry};
 pub use mend::{mend, Change};
+pub use texts::{make_sheet, read_statement, sheet_text, statement_text, Fault, Unmade, WrongLine};
 
 pub const AGENTS_MOST: usize = 64;
 pub const BOUNDARIES_MOST: usize = 256;
@@ -46,6 +49,12 @@ pub const SHEET_MOST: usize = 10_272;
 
 /// A buffer that suffices for the page of every sheet.
 pub const PAGE_MOST: usize = 5_120;
+
+/// A buffer that suffices for the text of every sheet.
+pub const SHEET_TEXT_MOST: usize = 72_960;
+
+/// A buffer that suffices for every statement of ours as text.
+pub const STATEMENT_TEXT_MOST: usize = 27_547;
 
 /// The cells of a report that suffice for every sheet: three for each of the 1,808 bytes that mending can change.
 pub const REPORT_MOST: usize = 5_424;

@@ -128,4 +128,49 @@ extern "C" {
         answer: *mut u32,
         answer_length: usize,
     ) -> u32;
+
+    pub fn naomhral_sheet_text(
+        sheet: *const u8,
+        sheet_length: usize,
+        out: *mut u8,
+        out_length: usize,
+        answer: *mut u32,
+        answer_length: usize,
+    ) -> u32;
+
+    pub fn naomhral_make_sheet(
+        text: *const u8,
+        text_length: usize,
+        out: *mut u8,
+        out_length: usize,
+        answer: *mut u32,
+        answer_length: usize,
+    ) -> u32;
+
+    pub fn naomhral_statement_text(
+        sheet: *const u8,
+        sheet_length: usize,
+        out: *mut u8,
+        out_length: usize,
+        answer: *mut u32,
+        answer_length: usize,
+    ) -> u32;
+
+    pub fn naomhral_read_statement(
+        text: *const u8,
+        text_length: usize,
+        agents: u32,
+        plants: u32,
+        contracts: u32,
+        figures: *mut u32,
+        figures_length: usize,
+        money: *mut i64,
+        money_length: usize,
+        schedule: *mut u32,
+        schedule_length: usize,
+        amounts: *mut u32,
+        amounts_length: usize,
+        answer: *mut u32,
+        answer_length: usize,
+    ) -> u32;
 }

@@ -4,7 +4,7 @@ use std::fs;
 use std::path::{Path, PathBuf};
 use std::process::Command;
 
-const NAMES: [&str; 5] = ["worked-hour", "must-run", "march", "empty-hour", "reasons"];
+const NAMES: [&str; 6] = ["worked-hour", "must-run", "march", "empty-hour", "reasons", "ties"];
 
 fn repository() -> PathBuf {
     Path::new(env!("CARGO_MANIFEST_DIR")).join("..")
@@ -88,6 +88,8 @@ fn sizes_of_the_header() {
     assert_eq!(stated("NAOMHRAL_AMOUNTS_MOST"), naomhral::CONTRACTS_MOST);
     assert_eq!(stated("NAOMHRAL_PAGE_MOST"), naomhral::PAGE_MOST);
     assert_eq!(stated("NAOMHRAL_WEIGHTS_MOST"), naomhral::WEIGHTS_MOST);
+    assert_eq!(stated("NAOMHRAL_SHEET_TEXT_MOST"), naomhral::SHEET_TEXT_MOST);
+    assert_eq!(stated("NAOMHRAL_STATEMENT_TEXT_MOST"), naomhral::STATEMENT_TEXT_MOST);
 }
 
 /// `examples/hour.c` compiles without a warning and prints each sheet's page, then a line of its own.

@@ -4,7 +4,16 @@ use std::path::Path;
 use std::process::Command;
 
 /// Each call with the bytes that it stays under.
-const MOST: [(&str, usize); 4] = [("settle", 11 << 10), ("page", 15 << 10), ("check", 23 << 10), ("day", 12 << 10)];
+const MOST: [(&str, usize); 8] = [
+    ("settle", 11 << 10),
+    ("page", 15 << 10),
+    ("check", 23 << 10),
+    ("day", 12 << 10),
+    ("sheet_text", 72 << 10),
+    ("make_sheet", 12 << 10),
+    ("statement_text", 45 << 10),
+    ("read_statement", 1 << 10),
+];
 
 #[test]
 fn stack_of_each_call() {
@@ -26,7 +35,7 @@ fn stack_of_each_call() {
     assert!(numbers.len() == 1 + MOST.len() && numbers[0] >= 800, "{printed}");
     for ((call, most), deepest) in MOST.iter().zip(&numbers[1..]) {
         println!("{call}: at most {deepest} bytes of stack over {} sheets", numbers[0]);
-        // the largest sheet wants some kilobytes of scratch: less than that would be a measure that missed it
-        assert!(*deepest > 4_096 && deepest < most, "{call} takes {deepest} bytes");
+        // the largest sheet wants a scratch: less than that would be a measure that missed it
+        assert!(*deepest > most / 4 && deepest < most, "{call} takes {deepest} bytes");
     }
 }

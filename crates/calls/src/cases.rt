@@ -1,4 +1,5 @@
 // A case taken apart, called, and its lent lists printed.
+use crate::books;
 use crate::exported;
 use crate::library;
 use crate::printer;
@@ -93,6 +94,7 @@ fn call_library(
 fn call_exported(
     call: u32,
     x: u32,
+    y: u32,
     bytes: &[u8],
     a: &[u32],
     b: &[u32],
@@ -110,7 +112,14 @@ fn call_exported(
         14 => exported::read(bytes, answer),
         15 => exported::write(a, b, c, d, text, answer),
         16 => exported::settle(bytes, figures, money, schedule, amounts, answer),
-        _ => exported::page(bytes, text, answer),
+        17 => exported::page(bytes, text, answer),
+        18 => exported::check(bytes, x, a, b, c, figures, money, schedule, amounts, answer),
+        19 => exported::why_plant(bytes, x, answer),
+        20 => exported::why_contract(bytes, x, answer),
+        21 => exported::mend(bytes, text, amounts, answer),
+        22 => exported::entry(bytes, a, b, answer),
+        23 => books::run(true, x, y, a),
+        _ => books::run(false, x, y, a),
     }
 }
 
@@ -174,6 +183,7 @@ fn call_either(
         call_exported(
             call,
             x,
+            y,
             bytes,
             a,
             b,
@@ -320,7 +330,7 @@ fn rows_of(n: u32) -> usize
 
 // The case that starts at a row; hands back how many rows it has.
 pub(crate) fn run(s: &[u8], at: usize) -> usize
-    requires { ⌜ at ≤ 4096 ⌝ }
+    requires { ⌜ at ≤ 8192 ⌝ }
     ensures { λ r. ⌜ (1 ≤ r) × (r ≤ 4097) ⌝ }
 {
     let head = rows::row_at(s, at);

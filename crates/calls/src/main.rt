@@ -6,6 +6,7 @@
 use input::Input;
 use libc::STDERR_FILENO;
 
+mod books;
 mod cases;
 mod exported;
 mod library;
@@ -13,7 +14,7 @@ mod printer;
 
 fn run_all(s: &[u8]) {
     let rows = s.len() / 16;
-    if 4096 < rows {
+    if 8192 < rows {
         return;
     }
     let mut at = 0;
@@ -26,7 +27,7 @@ fn run_all(s: &[u8]) {
 }
 
 fn main() {
-    let mut buf = io::large_buffer();
+    let mut buf = [0u8; 131072];
     let got = input::read_all(&mut buf);
     match got {
         Input::Failed => {

@@ -49,6 +49,15 @@ pub(crate) fn numbers(list: &[u32]) {
     }
 }
 
+pub(crate) fn wide_numbers(list: &[u64]) {
+    let mut i = 0;
+    while i < list.len() {
+        let n = list[i];
+        number(n);
+        i += 1;
+    }
+}
+
 fn wide(x: u8) -> u64 {
     x as u64
 }

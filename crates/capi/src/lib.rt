@@ -13,6 +13,7 @@ ghost use Rattle.capi.specs.Told.{ShareTold, ReadTold, WriteTold, Settle
 ghost use Rattle.checking.specs.Check.{stated};
 ghost use Rattle.settle.specs.Settled.{lent};
 
+pub mod texts;
 pub mod whole_day;
 pub mod why;
 

@@ -1,7 +1,8 @@
 // `desk day FILE..`: 24 sheets, an hour a file, and their pages one behind another.
 ghost use Prim.Native.Nat.{_*_, _≤_, _<_};
 ghost use lib.ListN.{length};
-use crate::files;
+use channels::files;
+use channels::say;
 use day::HOURS;
 use input::Input;
 use libc::STDERR_FILENO;
@@ -42,10 +43,6 @@ fn stretch(bytes: &[u8], a: usize, n: usize) -> &[u8] {
     &bytes[..0]
 }
 
-fn say(text: &[u8]) -> bool {
-    io::write_all(STDOUT_FILENO, text)
-}
-
 // The line above a page: the hour and its file.
 fn print_head(h: usize) -> bool
     requires { ⌜ h < 24 ⌝ }
@@ -79,7 +76,7 @@ fn kind_of(page: &[u8]) -> u32 {
 fn print_hour(h: usize, sheet: &[u8]) -> u32
     requires { ⌜ h < 24 ⌝ }
 {
-    let mut text = [0u8; 10900];
+    let mut text = [0u8; 5120];
     let printed = page::page(sheet, &mut text);
     let Printed::Done(n) = printed else {
         return UNWRITTEN;

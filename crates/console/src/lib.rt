@@ -1,9 +1,9 @@
 // What the desk program does. It only reads, calls and writes, so no contract can say more of it than that it is safe and ends.
-mod files;
 mod hours;
 mod mending;
 mod why;
 
+use channels::files;
 use input::Input;
 use libc::STDERR_FILENO;
 use libc::STDOUT_FILENO;
@@ -11,7 +11,7 @@ use printing::Printed;
 
 // Prints the page of a sheet, or says on standard error that it cannot be written.
 fn print_page(sheet: &[u8]) {
-    let mut text = [0u8; 10900];
+    let mut text = [0u8; 5120];
     let printed = page::page(sheet, &mut text);
     match printed {
         Printed::Refused(_) => {
@@ -38,10 +38,27 @@ fn settle_input() {
     }
 }
 
+fn hint(text: &[u8]) {
+    io::write_all(STDERR_FILENO, text);
+}
+
 fn say_usage() {
-    io::write_all(
-        STDERR_FILENO,
-        b"desk: it is used so:\n    desk < SHEET              prints the page of an hour sheet\n    desk day FILE ..          prints the pages of a day's 24 sheets, or none\n    desk mend SHEET OUT       writes a mended copy to the new file OUT, and prints what was changed\n    desk why SHEET plant 3    says in a sentence why a plant got what it got; so does contract 7\n",
+    hint(b"desk: it is used so:\n");
+    hint(b"    desk < SHEET              prints the page of an hour sheet\n");
+    hint(b"    desk day FILE ..          prints the pages of a day's 24 sheets, or none\n");
+    hint(
+        b"    desk mend SHEET OUT       writes a mended copy to the new file OUT, and prints what was changed\n",
+    );
+    hint(
+        b"    desk why SHEET plant 3    says in a sentence why a plant got what it got; so does contract 7\n",
+    );
+    hint(b"    desk text SHEET           prints a sheet as text, a row a line\n");
+    hint(b"    desk sheet TEXT OUT       writes the sheet of such a text to the new file OUT\n");
+    hint(
+        b"    desk statement SHEET      prints the settled hour as a statement, which is text too\n",
+    );
+    hint(
+        b"    desk check SHEET TEXT     says whether such a statement could be right, and what differs from ours\n",
     );
 }
 
@@ -53,7 +70,7 @@ fn run_word(word: &[u8], count: usize) {
         mending::run();
     } else if words::is_same(word, b"why") {
         why::run(count);
-    } else {
+    } else if !papers::run(word, count) {
         say_usage();
     }
 }

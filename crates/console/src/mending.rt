@@ -1,7 +1,9 @@
 // `desk mend SHEET OUT`: a mended copy of a sheet in a new file, and a line for every byte changed.
-use crate::files;
+use channels::files;
+use channels::say;
+use channels::say_number;
+use channels::say_refused;
 use input::Input;
-use libc::STDOUT_FILENO;
 use mend::Mending;
 use refusals::Refusal;
 use sheet::Counts;
@@ -12,14 +14,6 @@ use sums::wide;
 const CHANGES: usize = 1808;
 
 const REPORT: usize = 5424;
-
-fn say(text: &[u8]) -> bool {
-    io::write_all(STDOUT_FILENO, text)
-}
-
-fn say_number(n: u64) -> bool {
-    io::print_decimal(STDOUT_FILENO, n)
-}
 
 // The row of an agent or of a boundary; what changes there are its unused bytes.
 fn say_row(section: &[u8], row: usize) -> bool {
@@ -96,13 +90,8 @@ fn say_mended(sheet: &[u8], report: &[u32; REPORT], n: usize) {
     }
 }
 
-fn say_refused(why: Refusal) {
-    let said = say(b"refused ")
-        & say_number(why.number as u64)
-        & say(b" ")
-        & say_number(why.place as u64)
-        & say(b"\n");
-    if !said {
+fn tell_refused(why: Refusal) {
+    if !say_refused(why) {
         os::fail(b"desk: the refusal cannot be printed");
     }
 }
@@ -113,7 +102,7 @@ fn mend_sheet(sheet: &[u8]) {
     let mut report = [0u32; REPORT];
     let answer = mend::mend(sheet, &mut copy, &mut report);
     match answer {
-        Mending::Refused(why) => say_refused(why),
+        Mending::Refused(why) => tell_refused(why),
         Mending::Done(n) => {
             if sheet.len() <= copy.len() {
                 if files::write_named(3, &copy[..sheet.len()]) {

@@ -1,5 +1,7 @@
 // Why a plant or a contract got what it got, in one sentence that can be read out on the phone: desk why SHEET plant 3.
-use crate::files;
+use channels::files;
+use channels::say;
+use channels::say_refused;
 use input::Input;
 use libc::STDERR_FILENO;
 use libc::STDOUT_FILENO;
@@ -11,21 +13,11 @@ use reasons::Group;
 use reasons::PlantCase;
 use reasons::PlantReason;
 use reasons::PlantWhy;
-use refusals::Refusal;
 use words::Number;
 
 // Each of these answers whether all of it was written.
-fn say(text: &[u8]) -> bool {
-    io::write_all(STDOUT_FILENO, text)
-}
-
 fn say_number(n: u32) -> bool {
     io::print_decimal(STDOUT_FILENO, n as u64)
-}
-
-// As on the page of a sheet that is turned away.
-fn say_refused(r: Refusal) -> bool {
-    say(b"refused ") & say_number(r.number) & say(b" ") & say_number(r.place) & say(b"\n")
 }
 
 fn say_plant_reason(reason: PlantReason) -> bool {

@@ -38,7 +38,7 @@ abs-neg : (x : ℕ) → natAbs (negℤ (pos x)) ≡ x
 abs-neg zero = refl
 abs-neg (suc x) = refl
 
-money-small : (x y p : ℕ) → x ≤ mostBought → y ≤ mostBought → p ≤ mostOffer → natAbs (moneyOf x y p) < 10 ^ (15 + 1)
+pub money-small : (x y p : ℕ) → x ≤ mostBought → y ≤ mostBought → p ≤ mostOffer → natAbs (moneyOf x y p) < 10 ^ (15 + 1)
 money-small x y p h k l = go (decLt x y)
   where
     most : (z : ℕ) → z ≤ mostBought → z * p ≤ mostBought * mostOffer
@@ -82,17 +82,17 @@ module _ (bytes : List ℕ) (e : sheetVerdict bytes ≡ Verdict.Fine) where
   unfolding sheetVerdict
   read-fine = fine-parts (readVerdict bytes ∷ balanceVerdict (hourOf bytes) ∷ coverVerdict (hourOf bytes) ∷ []) e .0
 
-  hour-balanced : Balanced (hourOf bytes)
+  pub hour-balanced : Balanced (hourOf bytes)
   unfolding sheetVerdict
   hour-balanced =
       balanced (hourOf bytes)
       (fine-parts (readVerdict bytes ∷ balanceVerdict (hourOf bytes) ∷ coverVerdict (hourOf bytes) ∷ []) e .1 .0)
 
-  accepted : readOf bytes ≡ Reading.Accepted (countsOf bytes)
+  pub accepted : readOf bytes ≡ Reading.Accepted (countsOf bytes)
   unfolding readOf
   accepted = rw read-fine
 
-  hour-sound : Sound (hourOf bytes)
+  pub hour-sound : Sound (hourOf bytes)
   unfolding hourOf
   hour-sound = sound bytes (countsOf bytes) accepted
 

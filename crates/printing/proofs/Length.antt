@@ -30,7 +30,7 @@ spell-within (suc k) (suc m) n rest h =
     (omega (arith, spell-within k m (n / 10) ((48 + n % 10) ∷ rest) (tenth m n h)))
 
 -- of any number
-spell-most : (k n : ℕ) (rest : List ℕ) → length (spell k n rest) ≤ k + 1 + length rest
+pub spell-most : (k n : ℕ) (rest : List ℕ) → length (spell k n rest) ≤ k + 1 + length rest
 unfolding spell
 spell-most zero n rest = omega arith
 spell-most (suc k) n rest =

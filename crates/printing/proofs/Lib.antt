@@ -1,4 +1,5 @@
 pub mod Text
+pub mod Room
 pub mod Money
 pub mod Printing
 pub mod Front

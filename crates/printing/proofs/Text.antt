@@ -9,7 +9,7 @@ use borrow.Author.Tests.{lt-ltb, le-ltb}
 use lib.ListN.{length, drop, set, length-set, getD, length-drop}
 use lib.Seq.{drop-cons, drop-set-lt, getD-set-same}
 use Rattle.sums.specs.Lists.{at}
-use Rattle.printing.specs.Text.{spell, spaced, decimal}
+use Rattle.printing.specs.Text.{spell, spaced, decimal, linesTo}
 
 -- a byte put in front
 pub lead : (s : List ℕ) (i v : ℕ) → 0 < i → i ≤ length s → drop (i - 1) (set s (i - 1) v) ≡ v ∷ drop i s
@@ -58,3 +58,16 @@ pub spaced-more : (v : List ℕ) (k : ℕ) (rest : List ℕ)
     → spaced (drop (k - 1) v) rest ≡ decimal (at v (k - 1)) (32 ∷ spaced (drop k v) rest)
 unfolding spaced
 spaced-more v k rest p h = ap (λ (l : List ℕ). spaced l rest) (drop-more v k p h)
+
+-- the last line of what is left goes in front of what stands
+pub lines-more : (g : ℕ → List ℕ → List ℕ) (k : ℕ) (rest : List ℕ)
+    → 0 < k
+    → linesTo g k rest ≡ linesTo g (k - 1) (g (k - 1) rest)
+unfolding linesTo
+lines-more g zero rest p = absurd (omega arith)
+lines-more g (suc k) rest p = let e : suc k - 1 ≡ k = omega arith in rw e
+
+pub lines-none : (g : ℕ → List ℕ → List ℕ) (k : ℕ) (rest : List ℕ) → k ≤ 0 → linesTo g k rest ≡ rest
+unfolding linesTo
+lines-none g zero rest h = refl
+lines-none g (suc k) rest h = absurd (omega arith)

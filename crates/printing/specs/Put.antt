@@ -17,6 +17,10 @@ pub record Put (text after : List ℕ) (at most r : ℕ) : Type 0 where
   pub low : at ≤ r + most
   pub high : r ≤ at
 
+-- the same where there is room for it: at least `most` bytes before `at`, and `at` within the scratch
+pub record PutInRoom (text before after : List ℕ) (at most r : ℕ) : Type 0 where
+  pub put : most ≤ at → at ≤ length before → Put text after at most r
+
 -- the first line of a page, and how many are behind it
 unfoldable pub hourHead : Summary → List ℕ
 hourHead r = hourWord ++ spaced (r .price ∷ r .demand ∷ []) (decimal (r .losses) (10 ∷ []))

@@ -1,5 +1,7 @@
 // The page of an hour as bytes. A line is built from its end in a scratch array, since digits come least first, and then taken: once
 // for its length, so that the lent buffer is untouched until it is known to be long enough, and once to be copied there.
+pub mod pen;
+
 ghost use mathlib.Core.Path.{_≡_};
 ghost use mathlib.Core.Bool.{true, false, _&&_};
 ghost use mathlib.Core.List.{_∷_, [], _++_};

@@ -333,7 +333,7 @@ fn imbalance(random: &mut Random, rows: &mut Rows) {
 }
 
 /// One row more than a section may have, or exactly as many.
-fn crowd(random: &mut Random, rows: &mut Rows) {
+pub fn crowd(random: &mut Random, rows: &mut Rows) {
     let more = random.below(2) as usize;
     match random.below(4) {
         0 => rows.agents.resize(64 + more, 1),

@@ -20,7 +20,7 @@ slice-aggregate-run-all c = sym (length-take-le _ _ (within (c .before)))
 pub main-spec : {M : Type 1} → statement M
 main-spec =
     tie.close
-    (tie.spec (λ c κs. search needs) (λ c. search needs) (λ c κs. search needs) (λ c. search needs)
+    (tie.spec (λ c. search needs) (λ c κs. search needs) (λ c. search needs)
     (λ c. search needs) (λ c κs. search needs) (λ c. search needs) (λ c. search needs) (λ c κs. search needs)
     (λ c. search needs) array-share-prefix-buf slice-aggregate-run-all (λ c κs. search needs) (λ c. search needs)
     (λ c. search needs))

@@ -4,10 +4,10 @@ use Rattle.calls.proofs.run_all.Statement.{statement}
 use Rattle.calls.proofs.run_all.Tie as tie
 
 abbrev Inv-loop : tie.InvT-loop
-Inv-loop s rows at₀ case₀ at case = (case ≤ at) × (at ≤ 8193) × (rows ≤ 4096)
+Inv-loop s rows at₀ case₀ at case = (case ≤ at) × (at ≤ 12289) × (rows ≤ 8192)
 
 abbrev μ-loop : tie.MeasureT-loop
-μ-loop s rows at₀ case₀ at case = 8193 - at
+μ-loop s rows at₀ case₀ at case = 12289 - at
 
 pub run-all-spec : {M : Type 1} → statement M
 run-all-spec =

@@ -13,8 +13,11 @@ use Rattle.console.proofs.print_page.Tie as tie
 -- what was printed lies within the buffer
 within : (c : tie.After-printed) → c .printed .given .0 .0 ≤ length ((c .before .before .before) .page .last .1 .0)
 within c =
-    let long : length ((c .before .before .before) .page .last .1 .0) ≡ 10900 = search needs in
-    let fits = done-fits (pageText (now ((c .before .before .before .before .before .before) .args .sheet))) (replicate 10900 0) (c .printed .given .0 .0) (sym (c .printed .given .1) ∙ (c .before .before .before) .page .ensures .answer) in
+    let long : length ((c .before .before .before) .page .last .1 .0) ≡ 5120 = search needs in
+    let done = c .before .before .before in
+    let sheet = now (done .before .before .before .args .sheet) in
+    let fits = done-fits (pageText sheet) (replicate 5120 0) (c .printed .given .0 .0)
+    (sym (c .printed .given .1) ∙ done .page .ensures .answer) in
     omega (arith, fits .1)
 
 array-share-prefix-text : tie.Need-array-share-prefix-text

@@ -8,7 +8,6 @@ use Rattle.console.proofs.hours.print_last.Reads as reads
 use Rattle.console.proofs.hours.print_last.Lts as lts
 use Rattle.console.proofs.hours.count_settled.Reads as count-settled-reads
 use Rattle.console.proofs.hours.print_refused.Reads as print-refused-reads
-use Rattle.console.proofs.hours.say.Reads as say-reads
 use Rattle.io.proofs.print_decimal.Reads as print-decimal-reads
 use Rattle.os.proofs.fail.Reads as fail-reads
 

@@ -6,7 +6,6 @@ use Rattle.console.proofs.hours.read_files.Statement.{statement}
 use Rattle.console.proofs.hours.read_files.Tie as tie
 use Rattle.console.proofs.hours.read_files.Reads as reads
 use Rattle.console.proofs.hours.read_files.Lts as lts
-use Rattle.console.proofs.files.read_named.Reads as read-named-reads
 
 abbrev Inv-loop : tie.InvT-loop
 Inv-loop sheets₀ sizes₀ h₀ sheets sizes h = (h ≤ 24) × (length sheets ≡ length sheets₀)

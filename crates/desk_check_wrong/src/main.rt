@@ -1,0 +1,4 @@
+// `desk check SHEET STATEMENT`, of a statement with a row twice.
+fn main() {
+    console::run();
+}

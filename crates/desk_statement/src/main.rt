@@ -1,0 +1,4 @@
+// `desk statement SHEET`, of the worked hour.
+fn main() {
+    console::run();
+}

@@ -1,0 +1,4 @@
+// `desk text SHEET`, of the worked hour.
+fn main() {
+    console::run();
+}

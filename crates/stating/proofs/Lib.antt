@@ -1,0 +1,4 @@
+pub mod Marking
+pub mod Filling
+pub mod Reading
+pub mod Cases

@@ -1,0 +1,5 @@
+pub mod Serving
+pub mod Going
+pub mod Same
+pub mod Telling
+pub mod Cases

@@ -1,0 +1,9 @@
+pub mod Lines
+pub mod Fields
+pub mod Steps
+pub mod Back
+pub mod Money
+pub mod Faults
+pub mod Cases
+pub mod Written
+pub mod Walks

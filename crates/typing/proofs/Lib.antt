@@ -1,0 +1,16 @@
+pub mod Scanning
+pub mod Gathering
+pub mod Counting
+pub mod Reading
+pub mod Rows
+pub mod Back
+pub mod Putting
+pub mod RoundTrip
+pub mod Finding
+pub mod Making
+pub mod Trips
+pub mod Sole
+pub mod Cases
+pub mod Size
+pub mod Standing
+pub mod Refusing
