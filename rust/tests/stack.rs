@@ -11,7 +11,7 @@ const MOST: [(&str, usize); 8] = [
     ("day", 12 << 10),
     ("sheet_text", 72 << 10),
     ("make_sheet", 12 << 10),
-    ("statement_text", 45 << 10),
+    ("statement_text", 42 << 10),
     ("read_statement", 1 << 10),
 ];
 
