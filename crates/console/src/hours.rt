@@ -1,5 +1,5 @@
 // `desk day FILE..`: 24 sheets, an hour a file, and their pages one behind another.
-ghost use Prim.Native.Nat.{_*_, _≤_, _<_};
+ghost use Prim.Native.Nat.{_+_, _*_, _≤_, _<_};
 ghost use lib.ListN.{length};
 use channels::files;
 use channels::say;
@@ -9,20 +9,16 @@ use libc::STDERR_FILENO;
 use libc::STDOUT_FILENO;
 use printing::Printed;
 
-// The first word that names a file, and how many words a day has in all, with the program's own name.
-const FIRST: usize = 2;
-
-const WORDS: usize = FIRST + HOURS;
-
-// Reads all files, each to a place of its own. Where one cannot be read, which is told by its name, there is no day.
-fn read_files(sheets: &mut [u8], sizes: &mut [usize; HOURS]) -> bool
-    requires { ⌜ 10288 * 24 ≤ length (now sheets) ⌝ }
+// Reads all files, the first of which word `first` names, each to a place of its own. Where one cannot be read, which is told by its
+// name, there is no day.
+fn read_files(first: usize, sheets: &mut [u8], sizes: &mut [usize; HOURS]) -> bool
+    requires { ⌜ (first + 24 ≤ 18446744073709551615) × (10288 * 24 ≤ length (now sheets)) ⌝ }
 {
     let mut h = 0;
     while h < HOURS {
         let a = files::ROOM * h;
         let e = a + files::ROOM;
-        let got = files::read_named(FIRST + h, &mut sheets[a..e]);
+        let got = files::read_named(first + h, &mut sheets[a..e]);
         let Input::Bytes(n) = got else {
             return false;
         };
@@ -43,12 +39,10 @@ fn stretch(bytes: &[u8], a: usize, n: usize) -> &[u8] {
     &bytes[..0]
 }
 
-// The line above a page: the hour and its file.
-fn print_head(h: usize) -> bool
-    requires { ⌜ h < 24 ⌝ }
-{
+// The line above a page: the hour and its file, which word `from` names.
+fn print_head(h: usize, from: usize) -> bool {
     let mut path = io::buffer();
-    let n = os::arg(FIRST + h, &mut path);
+    let n = os::arg(from, &mut path);
     let first = say(b"sheet ");
     let second = io::print_decimal(STDOUT_FILENO, h as u64);
     let third = say(b" ");
@@ -73,16 +67,14 @@ fn kind_of(page: &[u8]) -> u32 {
 }
 
 // The page of hour h under its line.
-fn print_hour(h: usize, sheet: &[u8]) -> u32
-    requires { ⌜ h < 24 ⌝ }
-{
+fn print_hour(h: usize, from: usize, sheet: &[u8]) -> u32 {
     let mut text = [0u8; 5120];
     let printed = page::page(sheet, &mut text);
     let Printed::Done(n) = printed else {
         return UNWRITTEN;
     };
     let page = stretch(&text, 0, n);
-    if !print_head(h) {
+    if !print_head(h, from) {
         return UNWRITTEN;
     }
     if !say(page) {
@@ -92,11 +84,13 @@ fn print_hour(h: usize, sheet: &[u8]) -> u32
 }
 
 // Prints the pages and keeps what became of each hour. False where one could not be written.
-fn print_hours(sheets: &[u8], sizes: &[usize; HOURS], told: &mut [u32; HOURS]) -> bool {
+fn print_hours(first: usize, sheets: &[u8], sizes: &[usize; HOURS], told: &mut [u32; HOURS]) -> bool
+    requires { ⌜ first + 24 ≤ 18446744073709551615 ⌝ }
+{
     let mut h = 0;
     while h < HOURS {
         let sheet = stretch(sheets, files::ROOM * h, sizes[h]);
-        let kind = print_hour(h, sheet);
+        let kind = print_hour(h, first + h, sheet);
         if kind == UNWRITTEN {
             return false;
         }
@@ -145,24 +139,28 @@ fn print_last(told: &[u32; HOURS]) {
     }
 }
 
-fn run_files() {
+fn run_files(first: usize)
+    requires { ⌜ first + 24 ≤ 18446744073709551615 ⌝ }
+{
     let mut sheets = [0u8; files::ROOM * HOURS];
     let mut sizes = [0usize; HOURS];
-    if !read_files(&mut sheets, &mut sizes) {
+    if !read_files(first, &mut sheets, &mut sizes) {
         return;
     }
     let mut told = [0u32; HOURS];
-    if print_hours(&sheets, &sizes, &mut told) {
+    if print_hours(first, &sheets, &sizes, &mut told) {
         print_last(&told);
     } else {
         os::fail(b"desk: the day cannot be written");
     }
 }
 
-// With `count` words in all: a day has 24 files, and with fewer or more of them nothing is settled.
-pub fn run(count: usize) {
-    if count == WORDS {
-        run_files();
+// The words from `next` up to, not including, `end` name the files: a day has 24, and with fewer or more of them nothing is settled.
+pub(crate) fn run(next: usize, end: usize)
+    requires { ⌜ next ≤ end ⌝ }
+{
+    if end - next == HOURS {
+        run_files(next);
     } else {
         io::write_all(
             STDERR_FILENO,

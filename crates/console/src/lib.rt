@@ -3,6 +3,7 @@ mod hours;
 mod mending;
 mod why;
 
+ghost use Prim.Native.Nat.{_≤_};
 use channels::files;
 use input::Input;
 use libc::STDERR_FILENO;
@@ -62,27 +63,50 @@ fn say_usage() {
     );
 }
 
-// What the first word asks for, with `count` words in all, the program's own name among them; else how the program is used.
-fn run_word(word: &[u8], count: usize) {
-    if words::is_same(word, b"day") {
-        hours::run(count);
-    } else if words::is_same(word, b"mend") & (count == 4) {
-        mending::run();
-    } else if words::is_same(word, b"why") {
-        why::run(count);
-    } else if !papers::run(word, count) {
+// `mend` takes a sheet and a name for its copy.
+fn run_mend(next: usize, end: usize)
+    requires { ⌜ next ≤ end ⌝ }
+{
+    if end - next == 2 {
+        mending::run(next, next + 1);
+    } else {
         say_usage();
     }
 }
 
-// With no words the page of the sheet on standard input; else what the first word asks for.
+// What the word asks for, with the words from number `next` up to, not including, `end` behind it; else how the program is used.
+fn run_word(word: &[u8], next: usize, end: usize)
+    requires { ⌜ next ≤ end ⌝ }
+{
+    if words::is_same(word, b"day") {
+        hours::run(next, end);
+    } else if words::is_same(word, b"mend") {
+        run_mend(next, end);
+    } else if words::is_same(word, b"why") {
+        why::run(next, end);
+    } else if !papers::run(word, next, end) {
+        say_usage();
+    }
+}
+
+// What the program's words from number `first` up to, not including, `end` ask for: the command is word `first`, and what it is about
+// stands behind it.
+pub fn run_words(first: usize, end: usize) {
+    if end <= first {
+        say_usage();
+        return;
+    }
+    let mut word = [0u8; 16];
+    let n = os::arg(first, &mut word);
+    run_word(&word[..n], first + 1, end);
+}
+
+// With no words the page of the sheet on standard input; else what they ask for. Word 0 is the program's own name.
 pub fn run() {
     let count = os::arg_count();
     if count < 2 {
         settle_input();
     } else {
-        let mut word = [0u8; 16];
-        let n = os::arg(1, &mut word);
-        run_word(&word[..n], count);
+        run_words(1, count);
     }
 }

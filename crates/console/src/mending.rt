@@ -97,7 +97,7 @@ fn tell_refused(why: Refusal) {
 }
 
 // The copy goes to its file first: what is printed is of a file that was written.
-fn mend_sheet(sheet: &[u8]) {
+fn mend_sheet(sheet: &[u8], out: usize) {
     let mut copy = [0u8; files::ROOM];
     let mut report = [0u32; REPORT];
     let answer = mend::mend(sheet, &mut copy, &mut report);
@@ -105,7 +105,7 @@ fn mend_sheet(sheet: &[u8]) {
         Mending::Refused(why) => tell_refused(why),
         Mending::Done(n) => {
             if sheet.len() <= copy.len() {
-                if files::write_named(3, &copy[..sheet.len()]) {
+                if files::write_named(out, &copy[..sheet.len()]) {
                     say_mended(sheet, &report, n);
                 }
             }
@@ -113,11 +113,11 @@ fn mend_sheet(sheet: &[u8]) {
     }
 }
 
-// The sheet is the file that the second word names, the copy the one that the third names.
-pub fn run() {
+// The sheet is the file that word `from` names, the copy the one that word `out` names.
+pub(crate) fn run(from: usize, out: usize) {
     let mut sheet = [0u8; files::ROOM];
-    let got = files::read_named(2, &mut sheet);
+    let got = files::read_named(from, &mut sheet);
     if let Input::Bytes(n) = got {
-        mend_sheet(&sheet[..n]);
+        mend_sheet(&sheet[..n], out);
     }
 }

@@ -1,4 +1,5 @@
 // Why a plant or a contract got what it got, in one sentence that can be read out on the phone: desk why SHEET plant 3.
+ghost use Prim.Native.Nat.{_≤_};
 use channels::files;
 use channels::say;
 use channels::say_refused;
@@ -123,10 +124,10 @@ fn answer_of(sheet: &[u8], plant: bool, i: u32) -> bool {
     }
 }
 
-// Of the sheet that the second word names.
-fn answer(plant: bool, i: u32) {
+// Of the sheet that word `from` names.
+fn answer(from: usize, plant: bool, i: u32) {
     let mut sheet = [0u8; files::ROOM];
-    let got = files::read_named(2, &mut sheet);
+    let got = files::read_named(from, &mut sheet);
     let Input::Bytes(n) = got else {
         return;
     };
@@ -142,12 +143,12 @@ fn say_usage() {
     );
 }
 
-// The words behind `why`: a sheet, `plant` or `contract`, and a number.
-pub fn run(count: usize) {
+// Word `from` names the sheet, word `of` is `plant` or `contract`, word `which` its number.
+fn ask(from: usize, of: usize, which: usize) {
     let mut kind = [0u8; 16];
-    let n = os::arg(3, &mut kind);
+    let n = os::arg(of, &mut kind);
     let mut digits = [0u8; 16];
-    let m = os::arg(4, &mut digits);
+    let m = os::arg(which, &mut digits);
     let plant = words::is_same(&kind[..n], b"plant");
     let contract = words::is_same(&kind[..n], b"contract");
     let number = words::number_of(&digits[..m]);
@@ -155,8 +156,19 @@ pub fn run(count: usize) {
         say_usage();
         return;
     };
-    if (count == 5) & (plant | contract) {
-        answer(plant, i);
+    if plant | contract {
+        answer(from, plant, i);
+    } else {
+        say_usage();
+    }
+}
+
+// The words behind `why` are those from `next` up to, not including, `end`.
+pub(crate) fn run(next: usize, end: usize)
+    requires { ⌜ next ≤ end ⌝ }
+{
+    if end - next == 3 {
+        ask(next, next + 1, next + 2);
     } else {
         say_usage();
     }

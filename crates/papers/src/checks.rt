@@ -58,15 +58,15 @@ fn check_sheet(sheet: &[u8], text: &[u8]) -> bool {
     }
 }
 
-// The sheet is the file that the second word names, the statement's text the one that the third names.
-pub(crate) fn run() {
+// The sheet is the file that word `from` names, the statement's text the one that word `theirs` names.
+pub(crate) fn run(from: usize, theirs: usize) {
     let mut sheet = [0u8; files::ROOM];
     let mut text = [0u8; files::TEXT];
-    let of_sheet = files::read_named(2, &mut sheet);
+    let of_sheet = files::read_named(from, &mut sheet);
     let Input::Bytes(n) = of_sheet else {
         return;
     };
-    let of_text = files::read_text(3, &mut text);
+    let of_text = files::read_text(theirs, &mut text);
     let Input::Bytes(m) = of_text else {
         return;
     };

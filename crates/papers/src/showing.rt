@@ -26,10 +26,10 @@ fn show(sheet: &[u8], stated: bool) -> bool {
     }
 }
 
-// The sheet is the file that the second word names.
-pub(crate) fn run(stated: bool) {
+// The sheet is the file that word `from` names.
+pub(crate) fn run(from: usize, stated: bool) {
     let mut sheet = [0u8; files::ROOM];
-    let got = files::read_named(2, &mut sheet);
+    let got = files::read_named(from, &mut sheet);
     let Input::Bytes(n) = got else {
         return;
     };

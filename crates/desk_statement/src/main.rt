@@ -1,4 +1,0 @@
-// `desk statement SHEET`, of the worked hour.
-fn main() {
-    console::run();
-}

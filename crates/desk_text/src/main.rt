@@ -1,4 +1,0 @@
-// `desk text SHEET`, of the worked hour.
-fn main() {
-    console::run();
-}

@@ -1,0 +1,17 @@
+use Prim.Native.Nat.{_-_, _≤_}
+use borrow.Author.Needs.{needs}
+use Rattle.desk_words.proofs.main.Statement.{statement}
+use Rattle.desk_words.proofs.main.Tie as tie
+
+abbrev Inv-loop : tie.InvT-loop
+Inv-loop all first₀ i₀ t4 first i = 1 ≤ i
+
+abbrev μ-loop : tie.MeasureT-loop
+μ-loop all first₀ i₀ t4 first i = all - i
+
+pub main-spec : {M : Type 1} → statement M
+main-spec =
+    tie.close
+    (tie.spec Inv-loop μ-loop (λ c κs. search needs) (λ c. search needs) (λ c. search needs) (λ c κs. search needs)
+    (λ c κs. search needs) (λ c. search needs) (λ c. search needs) (λ c. search needs) (λ c. search needs)
+    (λ c κs. search needs) (λ c. search needs))
