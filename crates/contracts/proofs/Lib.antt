@@ -9,5 +9,5 @@ pub mod RowKeys
 pub mod OwnKeys
 pub mod ByPlace
 pub mod Section
-pub mod Fits
+pub mod Uncut
 pub mod Verdicts

@@ -1,6 +1,5 @@
 -- A buyer's own sums by keys. What is ahead of its row of kind 1 or 2 is what its rows of lower keys hold, since kind 3 has the higher
--- keys; what its rows of lower groups than one of kind 3 hold is all of kinds 1 and 2 and the cheaper groups; and the rows of that
--- group are the weights of the definition. Assumes nothing.
+-- keys; of kind 3 the lower groups are the cheaper ones, and the rows of one group are the weights of the definition. Assumes nothing.
 use Prim.Native.Nat.{ℕ, _+_, _*_, _≤_, _<_}
 use native.Mathlib.Omega.{arith}
 use native.Mathlib.Decide.{decLt, ℕ-discrete}
@@ -13,9 +12,9 @@ use borrow.Author.Tests.{lt-ltb, le-ltb, eq-eqb, ne-eqb, eqb-true}
 use Rattle.rows.specs.Limits.{mostPrice}
 use Rattle.sums.specs.Sums.{sum, pick}
 use Rattle.sums.specs.Lists.{at}
-use Rattle.sums.proofs.Sums.{sum-eq, sum-add}
+use Rattle.sums.proofs.Sums.{sum-eq}
 use Rattle.sums.proofs.Tests.{and-both, and-early, and-late}
-use Rattle.sums.proofs.Picks.{pick-le, pick-same, pick-both, pick-swap, pick-out, pick-lt, pick-ge, pick-eq, pick-ne}
+use Rattle.sums.proofs.Picks.{pick-le, pick-same, pick-both, pick-swap, pick-out, pick-ne}
 use Rattle.deals.specs.Deals as deal
 use Rattle.deals.specs.Deals.{Deals, count, kind, price, quantity, conditional, demanded, stands, aheadOf, cheaperOf}
 use Rattle.deals.specs.Hour.{Rows, ownCount, ownOf}
@@ -23,7 +22,7 @@ use Rattle.deals.proofs.Own.{own-place, own-order, own-lt, own-kind, own-price,
 use Rattle.deals.proofs.Rest.{stands-order}
 use Rattle.deals.proofs.Demanded.{length-group, group-at}
 use Rattle.contracts.specs.Keys.{dealKey, keyAt, keyGroup, priceSpan, rowCount, Ready}
-use Rattle.contracts.proofs.Decode.{side-demanded, side-firm, bit-demanded}
+use Rattle.contracts.proofs.Decode.{both-lt, both-ge, side-demanded, side-firm, bit-demanded}
 use Rattle.contracts.proofs.Known.{own-few}
 use Rattle.contracts.proofs.RowKeys.{order-key, row-key-group}
 
@@ -67,7 +66,7 @@ module _ (s : Rows) (ds : List ℕ) (ready : Ready s ds) where
           (omega arith) (omega (arith, own-lt s b j lj ej, own-few s ds ready b)) (omega (arith, own-lt s b i li ei, own-few s ds ready b)))
 
       -- a row of kind 3 has the higher key
-      behind-key : (j : ℕ) → j < n → buyer j ≡ b → demanded ≤ kindAt j → key i ≤ key j
+      pub behind-key : (j : ℕ) → j < n → buyer j ≡ b → demanded ≤ kindAt j → key i ≤ key j
       behind-key j lj ej dj =
           omega (
             arith,
@@ -103,79 +102,35 @@ module _ (s : Rows) (ds : List ℕ) (ready : Ready s ds) where
           (same-test j lj (eqb-true (buyer j) b e) (decLt (kindAt j) demanded)))
           ∙ pick-swap (eqb (buyer j) b) (ltb (key j) (key i)) (quantityAt j)))
 
-    -- ---- kind 3 at the price x: what has a lower group is of kinds 1 and 2, or cheaper
+    -- ---- what kinds 1 and 2 hold, and kind 3 below a price
+    abbrev pub firmSum : ℕ
+    firmSum = sum (count own) (λ k. pick (ltb (kind own k) demanded) (quantity own k))
+
+    pub cheaper-is : (x : ℕ)
+        → sum n (λ j. pick (eqb (buyer j) b) (pick (eqb (kindAt j) demanded && ltb (priceAt j) x) (quantityAt j)))
+        ≡ cheaperOf own x
+    unfolding cheaperOf
+    cheaper-is x = sym (own-rows s b (λ kd y q t. pick (eqb kd demanded && ltb y x) q))
+
+    -- ---- kind 3 at the price x
     module _ (x : ℕ) (hx : x ≤ mostPrice) where
       abbrev pub group : ℕ
       group = ((b * 2 + 1) * priceSpan + x) * 2
 
-      lower-split : (j : ℕ) → j < n → buyer j ≡ b → Dec (kindAt j < demanded) → Dec (priceAt j < x)
-          → pick (ltb (keyGroup (key j)) group) (quantityAt j) ≡ pick (ltb (kindAt j) demanded) (quantityAt j)
-          + pick (eqb (kindAt j) demanded && ltb (priceAt j) x) (quantityAt j)
-      lower-split j lj ej (yes f) p =
-          let z : keyGroup (key j) < group = omega (
-            arith,
-            row-key-group s ds ready j lj,
-            ready .price j lj,
-            side-firm (kindAt j) f,
-            pick-le (eqb (kindAt j) conditional) 1,
-          ) in
-          omega (
-            arith,
-            pick-lt (keyGroup (key j)) group (quantityAt j) z,
-            pick-lt (kindAt j) demanded (quantityAt j) f,
-            pick-both (eqb (kindAt j) demanded) (ltb (priceAt j) x) (quantityAt j),
-            pick-ne (kindAt j) demanded (pick (ltb (priceAt j) x) (quantityAt j)) (λ e. omega arith),
-          )
-      lower-split j lj ej (no f) (yes p) =
-          let e : kindAt j ≡ demanded = omega (arith, ready .most j lj) in
-          let z : keyGroup (key j) < group = omega (
-            arith,
-            row-key-group s ds ready j lj,
-            side-demanded (kindAt j) e,
-            bit-demanded (kindAt j) e,
-          ) in
-          omega (
-            arith,
-            pick-lt (keyGroup (key j)) group (quantityAt j) z,
-            pick-ge (kindAt j) demanded (quantityAt j) (omega arith),
-            pick-both (eqb (kindAt j) demanded) (ltb (priceAt j) x) (quantityAt j),
-            pick-eq (kindAt j) demanded (pick (ltb (priceAt j) x) (quantityAt j)) e,
-            pick-lt (priceAt j) x (quantityAt j) p,
-          )
-      lower-split j lj ej (no f) (no p) =
-          let e : kindAt j ≡ demanded = omega (arith, ready .most j lj) in
-          let z : group ≤ keyGroup (key j) = omega (
-            arith,
-            row-key-group s ds ready j lj,
-            side-demanded (kindAt j) e,
-            bit-demanded (kindAt j) e,
-          ) in
-          omega (
-            arith,
-            pick-ge (keyGroup (key j)) group (quantityAt j) z,
-            pick-ge (kindAt j) demanded (quantityAt j) (omega arith),
-            pick-both (eqb (kindAt j) demanded) (ltb (priceAt j) x) (quantityAt j),
-            pick-eq (kindAt j) demanded (pick (ltb (priceAt j) x) (quantityAt j)) e,
-            pick-ge (priceAt j) x (quantityAt j) (omega arith),
-          )
+      -- of kind 3 what has a lower group is cheaper
+      pub lower-group : (j : ℕ)
+          → j < n
+          → buyer j ≡ b
+          → kindAt j ≡ demanded
+          → ltb (keyGroup (key j)) group ≡ ltb (priceAt j) x
+      lower-group j lj ej e = go (decLt (priceAt j) x)
+        where
+          is : keyGroup (key j) ≡ ((b * 2 + 1) * priceSpan + priceAt j) * 2
+          is = omega (arith, ej, row-key-group s ds ready j lj, side-demanded (kindAt j) e, bit-demanded (kindAt j) e)
 
-      abbrev pub firmSum : ℕ
-      firmSum = sum (count own) (λ k. pick (ltb (kind own k) demanded) (quantity own k))
-
-      pub lower-is : sum n (λ j. pick (ltb (keyGroup (key j)) group) (pick (eqb (buyer j) b) (quantityAt j))) ≡ firmSum
-          + cheaperOf own x
-      unfolding cheaperOf
-      lower-is =
-          sum-eq n (λ j. pick (ltb (keyGroup (key j)) group) (pick (eqb (buyer j) b) (quantityAt j)))
-          (λ j. pick (eqb (buyer j) b)
-          (pick (ltb (kindAt j) demanded) (quantityAt j)
-          + pick (eqb (kindAt j) demanded && ltb (priceAt j) x) (quantityAt j)))
-          (λ j lj. pick-swap (ltb (keyGroup (key j)) group) (eqb (buyer j) b) (quantityAt j)
-          ∙ pick-same (eqb (buyer j) b) _ _
-          (λ e. lower-split j lj (eqb-true (buyer j) b e) (decLt (kindAt j) demanded) (decLt (priceAt j) x)))
-          ∙ sym (own-rows s b (λ kd y q t. pick (ltb kd demanded) q + pick (eqb kd demanded && ltb y x) q))
-          ∙ sum-add (count own) (λ k. pick (ltb (kind own k) demanded) (quantity own k))
-          (λ k. pick (eqb (kind own k) demanded && ltb (price own k) x) (quantity own k))
+          go : Dec (priceAt j < x) → ltb (keyGroup (key j)) group ≡ ltb (priceAt j) x
+          go (yes l) = both-lt (keyGroup (key j)) group (priceAt j) x (omega (arith, is)) l
+          go (no l) = both-ge (keyGroup (key j)) group (priceAt j) x (omega (arith, is)) (omega arith)
 
       -- the rows of the group
       in-group : (j : ℕ)

@@ -14,8 +14,9 @@ use Rattle.sums.proofs.Picks.{pick-ne}
 use Rattle.deals.specs.Deals.{kind, price, fixed, conditional, demanded}
 use Rattle.deals.specs.Hour.{Rows}
 use Rattle.deals.proofs.Rest.{orderOf}
-use Rattle.contracts.specs.Keys.{dealKey, keyAt, keyBuyer, isDemanded, keyGroup, keyRow}
-use Rattle.contracts.specs.Keys.{rowSpan, priceSpan, sideSpan, rowCount, Ready}
+use Rattle.contracts.specs.Keys.{dealKey, keyAt, keyBuyer, keySide, isDemanded, keyGroup, keyRow}
+use Rattle.contracts.specs.Keys.{rowSpan, priceSpan, rowCount, Ready}
+use Rattle.contracts.specs.Sides.{sideOf}
 use Rattle.contracts.proofs.Decode.{both-lt, both-ge, side-demanded, side-firm, bit-kind}
 use Rattle.contracts.proofs.Decode.{key-row, key-group, key-buyer, key-side, key-bit}
 
@@ -94,7 +95,7 @@ module _ (s : Rows) (ds : List ℕ) (ready : Ready s ds) where
       + pick (eqb (kindAt j) conditional) 1
   row-key-group j l = key-group (buyer j) (kindAt j) (priceAt j) j (ready .price j l) (omega (arith, ready .few))
 
-  row-key-side : (j : ℕ) → j < n → key j / sideSpan % 2 ≡ pick (eqb (kindAt j) demanded) 1
+  pub row-key-side : (j : ℕ) → j < n → keySide (key j) ≡ buyer j * 2 + sideOf (kindAt j)
   row-key-side j l = key-side (buyer j) (kindAt j) (priceAt j) j (ready .price j l) (omega (arith, ready .few))
 
   pub row-key-bit : (j : ℕ) → j < n → key j / rowSpan % 2 ≡ pick (eqb (kindAt j) conditional) 1
@@ -108,7 +109,7 @@ module _ (s : Rows) (ds : List ℕ) (ready : Ready s ds) where
       go (yes z) = z
       go (no z) = absurd (omega (
         arith,
-        eqb-true (key j / sideSpan % 2) 1 e,
+        eqb-true (keySide (key j) % 2) 1 e,
         row-key-side j l,
         pick-ne (kindAt j) demanded 1 z,
       ))
@@ -117,5 +118,5 @@ module _ (s : Rows) (ds : List ℕ) (ready : Ready s ds) where
   key-firm j l e = go (ℕ-discrete (kindAt j) demanded)
     where
       go : Dec (kindAt j ≡ demanded) → kindAt j < demanded
-      go (yes z) = absurd (eqb-false (key j / sideSpan % 2) 1 e (row-key-side j l ∙ side-demanded (kindAt j) z))
+      go (yes z) = absurd (eqb-false (keySide (key j) % 2) 1 e (omega (arith, row-key-side j l, side-demanded (kindAt j) z)))
       go (no z) = omega (arith, ready .most j l)

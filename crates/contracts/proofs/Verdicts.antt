@@ -21,7 +21,8 @@ use Rattle.deals.specs.Deals.{fixed, demanded}
 use Rattle.deals.specs.Hour.{hourAmount}
 use Rattle.contracts.specs.Assign.{countIn, dealIn, dealsIn, sectionFits, dealGood, dealVerdict}
 use Rattle.contracts.specs.Assign.{layoutVerdict, dealsVerdict, amountsVerdict, assignVerdict, Assigned}
-use Rattle.contracts.specs.Keys.{Keyed, rowCount, Ready}
+use Rattle.contracts.specs.Keys.{rowCount, Ready}
+use Rattle.contracts.specs.Sides.{Totalled}
 use Rattle.contracts.proofs.Section.{count-is, buyer-in, kind-in, price-in, quantity-in}
 
 -- ---- what the layout's test tells
@@ -58,7 +59,7 @@ module _ (a : ℕ) (k : Contract) where
   abbrev sizeGood : Bool
   sizeGood = leb (k .price) mostPrice && leb (k .quantity) mostQuantity
 
-  row-tells : dealGood a k ≡ true → Row
+  pub row-tells : dealGood a k ≡ true → Row
   row-tells e =
       let all = all-true (ltb (k .buyer) a) ((leb fixed (k .kind) && leb (k .kind) demanded && sizeGood) ∷ []) e in
       let kind = all-true (leb fixed (k .kind)) (leb (k .kind) demanded ∷ sizeGood ∷ []) (all .1 .0) in
@@ -119,7 +120,7 @@ module _ (s ds out : List ℕ) where
         ),
       )
 
--- ---- the pass over the rows, at row i, with k what it says and v its key
+-- ---- the pass over the rows, at row i
 module _ (s : List ℕ) (agents i : ℕ) (l : i < countIn s)
     (here : dealsVerdict s agents ≡ firstBad (dealVerdict s agents) i (countIn s - i)) (good : Bool)
     (is : good ≡ dealGood agents (dealIn s i)) where
@@ -129,42 +130,42 @@ module _ (s : List ℕ) (agents i : ℕ) (l : i < countIn s)
   pub row-stop : (v : Verdict)
       → v ≡ refused badContract i
       → good ≡ false
-      → (before after : List ℕ)
-      → Keyed (dealsVerdict s agents) s before v after
-  row-stop v e f before after =
+      → (totals : List ℕ)
+      → Totalled (dealsVerdict s agents) s v totals
+  row-stop v e f totals =
       record {
         answer =
             e ∙ sym (here ∙ bad-row (dealVerdict s agents) (countIn s) i (refusal badContract i) l (row-is false f));
-        keys = λ z. not-fine (refusal badContract i) (sym e ∙ z);
+        held = λ z. not-fine (refusal badContract i) (sym e ∙ z);
       }
 
   pub row-pass : good ≡ true → dealsVerdict s agents ≡ firstBad (dealVerdict s agents) (i + 1) (countIn s - (i + 1))
   row-pass f = here ∙ good-row (dealVerdict s agents) (countIn s) i l (row-is true f)
 
 -- ---- the verdict as it is come to
-module _ (s ds out before : List ℕ) where
-  pub judge-layout : (v : Verdict) (after : List ℕ)
+module _ (s ds out : List ℕ) where
+  pub judge-layout : (v : Verdict) (totals : List ℕ)
       → v ≡ refused badLayout 0
       → sectionFits s ds ≡ false
-      → Keyed (assignVerdict s ds out) s before v after
-  judge-layout v after e f =
+      → Totalled (assignVerdict s ds out) s v totals
+  judge-layout v totals e f =
       record {
         answer =
             e ∙ sym (ap (λ (t : Bool). orElse (refusedUnless t badLayout 0)
             (orElse (dealsVerdict s (length ds)) (orElse (amountsVerdict s out) Verdict.Fine))) f);
-        keys = λ z. not-fine (refusal badLayout 0) (sym e ∙ z);
+        held = λ z. not-fine (refusal badLayout 0) (sym e ∙ z);
       }
 
   -- a bad row is told before a short list
-  pub judge-rest : (v w x : Verdict) (fits : Bool) (after : List ℕ)
+  pub judge-rest : (v w x : Verdict) (fits : Bool) (totals : List ℕ)
       → sectionFits s ds ≡ true
-      → Keyed (dealsVerdict s (length ds)) s before v after
+      → Totalled (dealsVerdict s (length ds)) s v totals
       → fits ≡ leb (countIn s) (length out) → w ≡ refusedUnless fits noRoom 0 → x ≡ orElse v w
-      → Keyed (assignVerdict s ds out) s before x after
-  judge-rest v w x fits after good k f g e =
+      → Totalled (assignVerdict s ds out) s x totals
+  judge-rest v w x fits totals good k f g e =
       record {
         answer = rw (e, k .answer, g, f, good, else-fine);
-        keys = λ z. k .keys (fine-left v w (sym e ∙ z));
+        held = λ z. k .held (fine-left v w (sym e ∙ z));
       }
 
 -- ---- a refusal writes no cell, and fine rows are all written

@@ -1,5 +1,5 @@
 pub mod Assign
 pub mod Keys
-pub mod Fits
+pub mod Sides
 pub mod Order
 pub mod Walk

@@ -4,22 +4,21 @@ use refusals::Verdict;
 use rows::Agent;
 use rows::Contract;
 
-mod fit;
 mod order;
+mod sides;
 mod walk;
 
 ghost use mathlib.Core.Path.{_≡_};
-ghost use Prim.Native.Nat.{ℕ, _≤_, _<_};
+ghost use Prim.Native.Nat.{_≤_, _<_};
 ghost use lib.Dec.{eqb};
 ghost use lib.ListN.{length};
 ghost use Rattle.sums.specs.Sums.{pick};
 ghost use Rattle.sums.specs.Lists.{at, Filled};
 ghost use Rattle.refusals.specs.Refusals.{refusedUnless, orElse, noRoom};
-ghost use Rattle.rows.specs.Limits.{mostAgents, mostContracts};
-ghost use Rattle.deals.specs.Hour.{hourAmount};
-ghost use Rattle.contracts.specs.Assign.{countIn, dealIn, dealsIn, sectionFits, dealGood, dealsVerdict, assignVerdict, Assigned};
-ghost use Rattle.contracts.specs.Keys.{rowSpan, dealKey, keyIn, keyRow, Keyed, Ready};
-ghost use Rattle.contracts.specs.Fits.{exceeds, Cut};
+ghost use Rattle.rows.specs.Limits.{mostContracts};
+ghost use Rattle.contracts.specs.Assign.{countIn, dealIn, dealsIn, sectionFits, assignVerdict, Assigned};
+ghost use Rattle.contracts.specs.Keys.{rowSpan, dealKey, keyIn, keyRow, Ready};
+ghost use Rattle.contracts.specs.Sides.{AddedUp, Totalled, Cuts, isCut, FrontKeys, Picked, Cut, AllAssigned};
 ghost use Rattle.contracts.specs.Walk.{Rowed, Scattered};
 
 // ---- the key of each row, by which the rows are put in order
@@ -42,7 +41,7 @@ fn of_kind(kind: u32, which: u32) -> u64
 }
 
 // The number by which a row stands in its place.
-fn key_of(buyer: u32, kind: u32, price: u32, row: usize) -> u64
+pub(crate) fn key_of(buyer: u32, kind: u32, price: u32, row: usize) -> u64
     requires { ⌜ row < rowSpan ⌝ }
     ensures { λ r. ⌜ r ≡ dealKey buyer kind price row ⌝ }
 {
@@ -52,32 +51,6 @@ fn key_of(buyer: u32, kind: u32, price: u32, row: usize) -> u64
 }
 
 // ---- whether the rows can be assigned
-
-fn row_good(agents: usize, k: Contract) -> bool
-    ensures { λ r. ⌜ r ≡ dealGood agents k ⌝ }
-{
-    ((k.buyer as usize) < agents)
-        & (((Contract::FIXED <= k.kind) & (k.kind <= Contract::DEMANDED))
-            & ((k.price <= Contract::PRICE) & (k.quantity <= Contract::QUANTITY)))
-}
-
-// One pass judges each row and takes its key; the first bad row ends it.
-fn read_keys(section: &[u8], agents: usize, keys: &mut [u64]) -> Verdict
-    requires { ⌜ (countIn (now section) ≤ mostContracts) × (countIn (now section) ≤ length (now keys)) ⌝ }
-    ensures { λ r. ⌜ Keyed (dealsVerdict (now (section .entry)) agents) (now (section .entry)) (now (keys .entry)) r (now (keys .exit)) ⌝ }
-{
-    let n = section.len() / 16;
-    let mut i = 0;
-    while i < n {
-        let k = rows::contract_of(rows::row_at(section, i));
-        if !row_good(agents, k) {
-            return refusals::refuse(Refusal::CONTRACT, i as u32);
-        }
-        keys[i] = key_of(k.buyer, k.kind, k.price, i);
-        i += 1;
-    }
-    Verdict::Fine
-}
 
 fn layout_good(section: &[u8], demands: &[u32]) -> bool
     ensures { λ r. ⌜ r ≡ sectionFits (now (section .entry)) (now (demands .entry)) ⌝ }
@@ -105,15 +78,16 @@ fn or_else(v: Verdict, w: Verdict) -> Verdict
     w
 }
 
-// A bad row is told before a short list.
-fn judge(section: &[u8], demands: &[u32], out: &[u32], keys: &mut [u64]) -> Verdict
-    requires { ⌜ mostContracts ≤ length (now keys) ⌝ }
-    ensures { λ r. ⌜ Keyed (assignVerdict (now (section .entry)) (now (demands .entry)) (now (out .entry))) (now (section .entry)) (now (keys .entry)) r (now (keys .exit)) ⌝ }
+// A bad row is told before a short list. Where nothing is wrong, the totals have what each side of each buyer holds.
+fn judge(section: &[u8], demands: &[u32], out: &[u32], totals: &mut [u32]) -> Verdict
+    requires { ⌜ AddedUp (now section) 0 (now totals) ⌝ }
+    ensures { λ r. ⌜ Totalled (assignVerdict (now (section .entry)) (now (demands .entry)) (now (out .entry)))
+        (now (section .entry)) r (now (totals .exit)) ⌝ }
 {
     if !layout_good(section, demands) {
         return refusals::refuse(Refusal::LAYOUT, 0);
     }
-    let rows = read_keys(section, demands.len(), keys);
+    let rows = sides::add_up(section, demands.len(), totals);
     let room = room_verdict(section.len() / 16 <= out.len());
     or_else(rows, room)
 }
@@ -129,7 +103,8 @@ fn row_of(k: u64) -> usize
 // The quantities by place.
 fn gather(section: &[u8], keys: &[u64], n: usize, out: &mut [u32])
     requires { ⌜ (n ≤ length (now keys)) × (n ≤ length (now out)) ⌝ }
-    ensures { λ _. ⌜ Filled 0 (now (out .entry)) (now (out .exit)) n (λ u. dealIn (now (section .entry)) (keyRow (at (now (keys .entry)) u)) .quantity) ⌝ }
+    ensures { λ _. ⌜ Filled 0 (now (out .entry)) (now (out .exit)) n
+        (λ u. dealIn (now (section .entry)) (keyRow (at (now (keys .entry)) u)) .quantity) ⌝ }
 {
     let mut p = 0;
     while p < n {
@@ -152,42 +127,74 @@ fn scatter(keys: &[u64], n: usize, amounts: &[u32], out: &mut [u32])
 
 // ---- the amounts
 
-// The rows of the buyers whose rows exceed their demand: put in order by their keys, assigned by place, and put back.
-fn assign_rows(section: &[u8], keys: &mut [u64], totals: &[u32], demands: &[u32], out: &mut [u32])
-    requires { ⌜ Ready (dealsIn (now section)) (now demands) × (countIn (now section) ≤ length (now out)) × (length (now totals) ≡ mostAgents) ⌝ }
-    requires { ⌜ (countIn (now section) ≤ length (now keys)) × ((j : ℕ) → j < countIn (now section) → at (now keys) j ≡ keyIn (now section) j) ⌝ }
-    ensures { λ _. ⌜ Cut (now (section .entry)) (now (demands .entry)) (exceeds (now (totals .entry)) (now (demands .entry))) (now (out .entry)) (now (out .exit)) ⌝ }
+// The rows of the sides that are cut, from their keys in order: each is assigned by place, and put back.
+fn serve(section: &[u8], keys: &[u64], n: usize, decided: &[u32], demands: &[u32], out: &mut [u32])
+    requires { ⌜ Ready (dealsIn (now section)) (now demands) × (countIn (now section) ≤ length (now out)) × (n ≤ length (now keys)) ⌝ }
+    requires { ⌜ Cuts (now section) (now demands) (now decided) × (n ≤ mostContracts)
+        × Picked (isCut (now decided)) (keyIn (now section)) (countIn (now section)) n (now keys) ⌝ }
+    ensures { λ _. ⌜ Cut (now (section .entry)) (now (demands .entry)) (isCut (now (decided .entry)))
+        (now (out .entry)) (now (out .exit)) ⌝ }
 {
-    let n = fit::choose(keys, section.len() / 16, totals, demands);
-    order::sort(keys, n);
-    // Behind the sort, so that they can lie where earlier scratch lay.
     let mut placed = [0u32; Contract::MOST];
     let mut amounts = [0u32; Contract::MOST];
     gather(section, keys, n, &mut placed);
-    walk::walk(keys, n, &placed, demands, &mut amounts);
+    walk::walk(keys, n, &placed, &decided[..demands.len()], &mut amounts);
     scatter(keys, n, &amounts, out);
 }
 
-// Rows that nothing is wrong with: all in full, and then again those of each buyer whose rows together are more than its demand.
-fn assign_all(section: &[u8], keys: &mut [u64], demands: &[u32], out: &mut [u32])
-    requires { ⌜ Ready (dealsIn (now section)) (now demands) × (countIn (now section) ≤ length (now out)) ⌝ }
-    requires { ⌜ (countIn (now section) ≤ length (now keys)) × ((j : ℕ) → j < countIn (now section) → at (now keys) j ≡ keyIn (now section) j) ⌝ }
-    ensures { λ _. ⌜ Filled 0 (now (out .entry)) (now (out .exit)) (countIn (now (section .entry))) (hourAmount (dealsIn (now (section .entry))) (now (demands .entry))) ⌝ }
+// The same from their keys in the order of the rows. The sort's scratch is gone when they are served.
+fn assign_cut(
+    section: &[u8],
+    keys: &mut [u64],
+    n: usize,
+    decided: &[u32],
+    demands: &[u32],
+    out: &mut [u32],
+)
+    requires { ⌜ Ready (dealsIn (now section)) (now demands) × (countIn (now section) ≤ length (now out))
+        × (countIn (now section) ≤ length (now keys)) ⌝ }
+    requires { ⌜ Cuts (now section) (now demands) (now decided)
+        × FrontKeys (isCut (now decided)) (keyIn (now section)) (countIn (now section)) n (now keys) ⌝ }
+    ensures { λ _. ⌜ Cut (now (section .entry)) (now (demands .entry)) (isCut (now (decided .entry)))
+        (now (out .entry)) (now (out .exit)) ⌝ }
 {
-    let mut totals = [0u32; Agent::MOST];
-    fit::in_full(section, &mut totals, out);
-    assign_rows(section, keys, &totals, demands, out);
+    order::sort(keys, n);
+    serve(section, keys, n, decided, demands, out);
+}
+
+// Where some side is cut: the rows of the others at once, then its own.
+fn assign_some(section: &[u8], decided: &[u32], demands: &[u32], out: &mut [u32])
+    requires { ⌜ Ready (dealsIn (now section)) (now demands) × (countIn (now section) ≤ length (now out)) ⌝ }
+    requires { ⌜ Cuts (now section) (now demands) (now decided) ⌝ }
+    ensures { λ _. ⌜ AllAssigned (now (section .entry)) (now (demands .entry)) (now (out .entry)) (now (out .exit)) ⌝ }
+{
+    let mut keys = [0u64; Contract::MOST];
+    let n = sides::part(section, decided, &mut keys, out);
+    assign_cut(section, &mut keys, n, decided, demands, out);
+}
+
+// Rows that nothing is wrong with, from what the sides hold.
+fn assign_all(section: &[u8], totals: &mut [u32], demands: &[u32], out: &mut [u32])
+    requires { ⌜ Ready (dealsIn (now section)) (now demands) × (countIn (now section) ≤ length (now out)) ⌝ }
+    requires { ⌜ AddedUp (now section) (countIn (now section)) (now totals) ⌝ }
+    ensures { λ _. ⌜ AllAssigned (now (section .entry)) (now (demands .entry)) (now (out .entry)) (now (out .exit)) ⌝ }
+{
+    if sides::decide(demands, totals) {
+        assign_some(section, totals, demands, out);
+        return;
+    }
+    sides::in_full(section, out);
 }
 
 // What each contract of a section of rows gets; `demands` has the commercial demand of each agent.
 pub fn assign(section: &[u8], demands: &[u32], out: &mut [u32]) -> Verdict
     ensures { λ r. ⌜ Assigned (now (section .entry)) (now (demands .entry)) (now (out .entry)) r (now (out .exit)) ⌝ }
 {
-    let mut keys = [0u64; Contract::MOST];
-    let v = judge(section, demands, out, &mut keys);
+    let mut totals = [0u32; sides::CELLS];
+    let v = judge(section, demands, out, &mut totals);
     let Verdict::Fine = v else {
         return v;
     };
-    assign_all(section, &mut keys, demands, out);
+    assign_all(section, &mut totals, demands, out);
     Verdict::Fine
 }

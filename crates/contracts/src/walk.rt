@@ -83,8 +83,10 @@ fn copy(from: &[u32], out: &mut [u32])
 // A group that doesn't fit: one row gets what is left, several share it. There are no more than a sheet may have, and room for
 // each, so that sharing never refuses.
 fn share_left(left: u32, quantities: &[u32], amounts: &mut [u32])
-    requires { ⌜ (length (now quantities) ≤ mostContracts) × (length (now quantities) ≡ length (now amounts)) × (left < total (now quantities)) ⌝ }
-    ensures { λ _. ⌜ Filled 0 (now (amounts .entry)) (now (amounts .exit)) (length (now (quantities .entry))) (shareOf left (now (quantities .entry))) ⌝ }
+    requires { ⌜ (length (now quantities) ≤ mostContracts) × (length (now quantities) ≡ length (now amounts))
+        × (left < total (now quantities)) ⌝ }
+    ensures { λ _. ⌜ Filled 0 (now (amounts .entry)) (now (amounts .exit))
+        (length (now (quantities .entry))) (shareOf left (now (quantities .entry))) ⌝ }
 {
     if quantities.len() == 1 {
         amounts[0] = left;
@@ -96,7 +98,9 @@ fn share_left(left: u32, quantities: &[u32], amounts: &mut [u32])
 // Kind 3 at one price: in full where all of it fits, else the demand left is shared.
 fn serve_group(tally: Tally, quantities: &[u32], amounts: &mut [u32]) -> Tally
     requires { ⌜ (length (now quantities) ≤ mostContracts) × (length (now quantities) ≡ length (now amounts)) ⌝ }
-    ensures { λ r. ⌜ (r .left ≡ tally .left - total (now (quantities .entry))) × Filled 0 (now (amounts .entry)) (now (amounts .exit)) (length (now (quantities .entry))) (groupAmount (tally .left) (now (quantities .entry))) ⌝ }
+    ensures { λ r. ⌜ (r .left ≡ tally .left - total (now (quantities .entry)))
+        × Filled 0 (now (amounts .entry)) (now (amounts .exit)) (length (now (quantities .entry)))
+        (groupAmount (tally .left) (now (quantities .entry))) ⌝ }
 {
     let asked = total_of(quantities);
     if sums::wide(tally.left) < asked {
@@ -109,7 +113,8 @@ fn serve_group(tally: Tally, quantities: &[u32], amounts: &mut [u32]) -> Tally
 
 // The stretch whose first key is k.
 fn serve(k: u64, tally: Tally, quantities: &[u32], amounts: &mut [u32]) -> Tally
-    requires { ⌜ (length (now quantities) ≤ mostContracts) × (length (now quantities) ≡ length (now amounts)) × (isDemanded k ≡ false → length (now quantities) ≡ 1) ⌝ }
+    requires { ⌜ (length (now quantities) ≤ mostContracts) × (length (now quantities) ≡ length (now amounts))
+        × (isDemanded k ≡ false → length (now quantities) ≡ 1) ⌝ }
     ensures { λ r. ⌜ Served k (tally .left) (now (quantities .entry)) (now (amounts .entry)) (r .left) (now (amounts .exit)) ⌝ }
 {
     if demanded(k) {
@@ -161,7 +166,8 @@ fn stretch_end(keys: &[u64], n: usize, p: usize) -> usize
 
 // Assigns the first n places, stretch by stretch.
 pub(crate) fn walk(keys: &[u64], n: usize, quantities: &[u32], demands: &[u32], amounts: &mut [u32])
-    requires { ⌜ (n ≤ mostContracts) × (n ≤ length (now keys)) × (n ≤ length (now quantities)) × (n ≤ length (now amounts)) × WalkFrom (now keys) n (now quantities) (now demands) ⌝ }
+    requires { ⌜ (n ≤ mostContracts) × (n ≤ length (now keys)) × (n ≤ length (now quantities)) × (n ≤ length (now amounts))
+        × WalkFrom (now keys) n (now quantities) (now demands) ⌝ }
     ensures { λ _. ⌜ Walked (now (keys .entry)) (now (quantities .entry)) (now (demands .entry)) n (now (amounts .exit)) ⌝ }
 {
     if n == 0 {

@@ -1,33 +1,40 @@
+use mathlib.Core.Path.{_∙_}
+use native.Mathlib.Omega.{arith}
 use borrow.Author.Needs.{needs}
-use Rattle.contracts.proofs.Fits.{bounded, added-none, cut-full}
+use Rattle.contracts.specs.Sides.{Cuts}
+use Rattle.contracts.proofs.Uncut.{decided-cuts, none-cut-full}
 use Rattle.contracts.proofs.assign_all.Statement.{statement}
 use Rattle.contracts.proofs.assign_all.Tie as tie
 
 -- ways back: X-to-Y leads from the place X of the code to the earlier place Y
-abbrev in-full-to-start : tie.After-in-full → tie.Start
-in-full-to-start c = c .before .before .before .before .before .before .before
+abbrev decide-to-start : tie.After-decide → tie.Start
+decide-to-start c = c .before .before .before .before .before .before
 
-abbrev assign-rows-arg2-to-in-full : tie.After-assign-rows-arg2 → tie.After-in-full
-assign-rows-arg2-to-in-full c = c .before .before .before .before .before .before
+abbrev some-arg-to-decide : tie.After-assign-some-arg2 → tie.After-decide
+some-arg-to-decide c = c .before .before .before .before .before
 
-in-full-requires : tie.Need-in-full-requires
-in-full-requires c κs =
-    let start = c .before .before .before .before .before .before in
-    (bounded _ _ (start .pre .0 .0), added-none _, start .pre .0 .1)
+abbrev last-to-else : tie.After-slice-known5 → tie.Else1
+last-to-else c = c .before .before .before .before
 
-assign-rows-requires : tie.Need-assign-rows-requires
-assign-rows-requires c κs =
-    let start = in-full-to-start (assign-rows-arg2-to-in-full c) in
-    ((start .pre .0 .0, search needs, search needs), start .pre .1)
+-- what was decided is what the sides ask for
+cuts : (c : tie.After-decide)
+    → Cuts (decide-to-start c .args .section .now) (decide-to-start c .args .demands .now) (c .decide .last .1 .0)
+cuts c = decided-cuts _ _ (decide-to-start c .pre .0 .0) _ _ (decide-to-start c .pre .1) (c .decide .ensures .0)
 
-returns : tie.Need-returns
-returns c =
-    let filled = assign-rows-arg2-to-in-full (c .before .before .before .before .before) in
-    cut-full _ _ (in-full-to-start filled .pre .0 .0) _ _ _ _ (filled .in-full .ensures .held) (filled .in-full .ensures .rows)
-    (c .before .before .before .before .assign-rows .ensures)
+assign-some-requires : tie.Need-assign-some-requires
+assign-some-requires c κs =
+    let start = decide-to-start (some-arg-to-decide c) in (start .pre .0, cuts (some-arg-to-decide c))
+
+returns-2 : tie.Need-returns-2
+returns-2 c =
+    let decided = last-to-else c .before .before .before in
+    let start = decide-to-start decided in
+    none-cut-full _ _ (start .pre .0 .0) _ (cuts decided) _ _
+    (λ b l. decided .decide .ensures .0 .cut b l ∙ decided .decide .ensures .1 (last-to-else c .if1 .left) b l)
+    (c .before .before .in-full .ensures)
 
 pub assign-all-spec : {M : Type 1} → statement M
 assign-all-spec =
     tie.close
-    (tie.spec (λ c. search needs) in-full-requires (λ c. search needs) assign-rows-requires (λ c. search needs)
-    (λ c. search needs) returns)
+    (tie.spec (λ c κs. search needs) assign-some-requires (λ c. search needs) (λ c. search needs) (λ c. search needs)
+    (λ c κs. search needs) (λ c. search needs) (λ c. search needs) returns-2)
