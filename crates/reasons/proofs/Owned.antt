@@ -29,7 +29,7 @@ use Rattle.columns.proofs.Columns.{contracts-long, buyer-at, deal-at, price-at,
 use Rattle.hour.specs.Sheet.{Sheet, contracts}
 use Rattle.hour.specs.Sound.{Sound}
 use Rattle.reasons.specs.Reasons.{conditionalReason, demandedReason, contractReasonBy}
-use Rattle.reasons.specs.Parts.{counted, passed, reasonIn}
+use Rattle.reasons.specs.Parts.{counted, partTotal, reasonIn}
 use Rattle.reasons.specs.declared.passes.Part.{Part}
 use Rattle.reasons.specs.declared.ContractReason.{ContractReason}
 
@@ -110,8 +110,8 @@ module _ (s : List ℕ) (c : Counts) (e : readOf s ≡ Reading.Accepted c) (i : 
       ap (λ (t : Bool). ltb y (me .price) || (eqb y (me .price) && (ltb k (me .kind) || (eqb k (me .kind) && t))))
       (place-order j q)
 
-  ahead-is : aheadOf own (place i) ≡ passed s c Part.Ahead me i
-  unfolding aheadOf passed
+  ahead-is : aheadOf own (place i) ≡ partTotal s c Part.Ahead me i
+  unfolding aheadOf partTotal
   ahead-is =
       rw (kind-is, price-is)
       (own-pass (λ k j. ltb (k .kind) demanded && stands (k .price) (k .kind) j (me .price) (me .kind) i)
@@ -120,8 +120,8 @@ module _ (s : List ℕ) (c : Counts) (e : readOf s ≡ Reading.Accepted c) (i : 
       (ap (λ (t : Bool). pick (ltb (contractAt s c j .kind) demanded && t) (contractAt s c j .quantity))
       (same-stand (contractAt s c j .price) (contractAt s c j .kind) j q))))
 
-  firm-is : sum (count own) (λ k. pick (ltb (kind own k) demanded) (quantity own k)) ≡ passed s c Part.Firm me i
-  unfolding passed
+  firm-is : sum (count own) (λ k. pick (ltb (kind own k) demanded) (quantity own k)) ≡ partTotal s c Part.Firm me i
+  unfolding partTotal
   firm-is =
       own-pass (λ k j. ltb (k .kind) demanded) (λ kd x q t. pick (ltb kd demanded) q)
       (λ j k q. rw (deal-at s c j k, quantity-at s c j k))
@@ -158,19 +158,19 @@ module _ (s : List ℕ) (c : Counts) (e : readOf s ≡ Reading.Accepted c) (i : 
       ))
       go (no z) = omega arith
 
-  rest-is : (d : ℕ) → restOf own d ≡ d - passed s c Part.Firm me i
+  rest-is : (d : ℕ) → restOf own d ≡ d - partTotal s c Part.Firm me i
   rest-is d = rest-total own d own-few own-known ∙ ap (λ (x : ℕ). d - x) firm-is
 
   -- ---- kind 3
-  cheaper-is : cheaperOf own (me .price) ≡ passed s c Part.Cheaper me i
-  unfolding cheaperOf passed
+  cheaper-is : cheaperOf own (me .price) ≡ partTotal s c Part.Cheaper me i
+  unfolding cheaperOf partTotal
   cheaper-is =
       own-pass (λ k j. eqb (k .kind) demanded && ltb (k .price) (me .price))
       (λ kd x q t. pick (eqb kd demanded && ltb x (me .price)) q)
       (λ j k q. rw (deal-at s c j k, price-at s c j k, quantity-at s c j k))
 
-  group-is : total (groupOf own (me .price)) ≡ passed s c Part.Group me i
-  unfolding passed
+  group-is : total (groupOf own (me .price)) ≡ partTotal s c Part.Group me i
+  unfolding partTotal
   group-is =
       group-total own (me .price)
       ∙ own-pass (λ k j. eqb (k .kind) demanded && eqb (k .price) (me .price))

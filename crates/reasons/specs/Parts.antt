@@ -41,12 +41,12 @@ abbrev pub countedPart : Part → (me : Contract) → ℕ → (k : Contract) →
 countedPart part me i k j = pick (counted part me i k j) (k .quantity)
 
 -- a pass over all contract rows
-unfoldable pub passed : List ℕ → Counts → Part → Contract → ℕ → ℕ
-passed s c part me i = sum (c .contracts) (λ j. countedPart part me i (contractAt s c j) j)
+unfoldable pub partTotal : List ℕ → Counts → Part → Contract → ℕ → ℕ
+partTotal s c part me i = sum (c .contracts) (λ j. countedPart part me i (contractAt s c j) j)
 
 -- the reason by these passes, where the buyer's demand is d
 unfoldable pub reasonIn : List ℕ → Counts → Contract → (i d : ℕ) → ContractReason
 reasonIn s c me i d =
     cond (eqb (me .kind) fixed) ContractReason.Fixed
-    (cond (eqb (me .kind) conditional) (conditionalReason (passed s c Part.Ahead me i) d)
-    (demandedReason (d - passed s c Part.Firm me i) (passed s c Part.Cheaper me i) (passed s c Part.Group me i)))
+    (cond (eqb (me .kind) conditional) (conditionalReason (partTotal s c Part.Ahead me i) d)
+    (demandedReason (d - partTotal s c Part.Firm me i) (partTotal s c Part.Cheaper me i) (partTotal s c Part.Group me i)))

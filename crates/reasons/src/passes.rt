@@ -12,7 +12,7 @@ ghost use Rattle.sheet.specs.Reading.{readOf};
 ghost use Rattle.sheet.specs.Asking.{contractAt};
 ghost use Rattle.sheet.specs.declared.Reading.{Reading};
 ghost use Rattle.reasons.specs.Reasons.{conditionalReason, demandedReason};
-ghost use Rattle.reasons.specs.Parts.{counted, countedPart, passed, reasonIn};
+ghost use Rattle.reasons.specs.Parts.{counted, countedPart, partTotal, reasonIn};
 
 // Which of a buyer's rows a pass adds up.
 pub(crate) enum Part {
@@ -60,7 +60,7 @@ fn part_of(part: Part, me: Contract, i: usize, k: Contract, j: usize) -> u32
 // One pass over the contract rows of an accepted sheet.
 fn pass(bytes: &[u8], c: Counts, part: Part, me: Contract, i: usize) -> u32
     requires { ⌜ readOf (now bytes) ≡ Reading.Accepted c ⌝ }
-    ensures { λ r. ⌜ r ≡ passed (now (bytes .entry)) c part me i ⌝ }
+    ensures { λ r. ⌜ r ≡ partTotal (now (bytes .entry)) c part me i ⌝ }
 {
     let start = c.agents + c.boundaries + c.plants;
     let n = c.contracts;

@@ -18,7 +18,7 @@ use Rattle.sheet.specs.Reading.{boundaryStart, plantStart, contractStart
 use Rattle.sheet.specs.Reading.{lengthGood, countsOf, countsGood, distancesGood, layoutGood, kindAt, agentVerdict}
 use Rattle.sheet.specs.Reading.{boundaryVerdict, plantVerdict, contractVerdict, readVerdict, reading, readOf}
 use Rattle.sheet.specs.Asking.{rowsIn, rowsBefore, sectionOf, isSection, fieldsAt, askedRow, rowOf, rowIn}
-use Rattle.sheet.specs.Sections.{kindIn, rowGood, toldIn, rowVerdict, sectionVerdict, rowsVerdict}
+use Rattle.sheet.specs.Sections.{kindIn, sectionRowGood, toldIn, rowVerdict, sectionVerdict, rowsVerdict}
 use Rattle.sheet.specs.declared.Counts.{Counts}
 use Rattle.sheet.specs.declared.Reading.{Reading}
 use Rattle.sheet.specs.declared.RowRead.{RowRead}
@@ -48,7 +48,7 @@ has-trailer n e =
 module _ (s : List ℕ) where
   -- the agents' rows are the sheet's first
   agents-told : (c : Counts) → rowVerdict s c 1 ≡ agentVerdict s c
-  unfolding rowVerdict rowGood rowsBefore agentVerdict
+  unfolding rowVerdict sectionRowGood rowsBefore agentVerdict
   agents-told c = fun-ext (λ i. let z : 0 + i ≡ i = omega arith in rw z)
 
   pub read-short : lengthGood (length s) ≡ false → readOf s ≡ Reading.Refused (refusal badLength 0)
@@ -61,7 +61,7 @@ module _ (s : List ℕ) where
     read-crooked h = rw (e, h)
 
     pub read-rows : layoutGood s ≡ true → readOf s ≡ reading (rowsVerdict s (countsOf s)) (countsOf s)
-    unfolding readOf readVerdict rowsVerdict sectionVerdict rowVerdict rowGood rowsIn rowsBefore agentVerdict
+    unfolding readOf readVerdict rowsVerdict sectionVerdict rowVerdict sectionRowGood rowsIn rowsBefore agentVerdict
         boundaryVerdict plantVerdict contractVerdict
     read-rows h = rw (e, h, agents-told (countsOf s))
 

@@ -43,13 +43,13 @@ plantRowGood kind w = plantGood (kind (plantOf w .agent)) (plantOf w)
 abbrev pub contractRowGood : (kind : ℕ → ℕ) → Words → Bool
 contractRowGood kind w = contractGood (kind (contractOf w .seller)) (kind (contractOf w .buyer)) (contractOf w)
 
-unfoldable pub rowGood : (kind : ℕ → ℕ) → ℕ → Words → Bool
-rowGood kind k w =
+unfoldable pub sectionRowGood : (kind : ℕ → ℕ) → ℕ → Words → Bool
+sectionRowGood kind k w =
     bySection k (agentRowGood w) (boundaryRowGood kind w) (plantRowGood kind w) (contractRowGood kind w) true
 
 -- what row i of section k is told: sections 1 to 4 have refusals 3 to 6 (`read-rows` ties them to the page Reading)
 abbrev pub rowTold : (kind : ℕ → ℕ) → (k : ℕ) → Words → (i : ℕ) → Verdict
-rowTold kind k w i = refusedUnless (rowGood kind k w) (k + 2) i
+rowTold kind k w i = refusedUnless (sectionRowGood kind k w) (k + 2) i
 
 abbrev pub toldIn : (agents section : List ℕ) → (k i : ℕ) → Verdict
 toldIn agents section k i = rowTold (kindIn agents) k (wordsAt section i) i

@@ -6,7 +6,7 @@ ghost use Rattle.sheet.specs.Reading.{trailerStart, lengthGood, countsOf
 ghost use Rattle.sheet.specs.Asking.{rowsIn, rowsBefore, sectionOf, agentFields, boundaryFields};
 ghost use Rattle.sheet.specs.Asking.{plantFields, contractFields, verdictIn, fieldsIn};
 ghost use Rattle.sheet.specs.Sections.{Addable, Placeable, kindIn, agentRowGood, boundaryRowGood, plantRowGood};
-ghost use Rattle.sheet.specs.Sections.{contractRowGood, rowGood, toldIn, sectionVerdict, rowsVerdict, Laid};
+ghost use Rattle.sheet.specs.Sections.{contractRowGood, sectionRowGood, toldIn, sectionVerdict, rowsVerdict, Laid};
 use refusals::Refusal;
 use refusals::Verdict;
 use rows::Agent;
@@ -279,7 +279,7 @@ fn contract_row_good(agents: &[u8], w: Words) -> bool
 
 // Whether a row of section k is good.
 fn row_good(agents: &[u8], k: u32, w: Words) -> bool
-    ensures { λ r. ⌜ r ≡ rowGood (kindIn (now (agents .entry))) k w ⌝ }
+    ensures { λ r. ⌜ r ≡ sectionRowGood (kindIn (now (agents .entry))) k w ⌝ }
 {
     match k {
         1 => agent_row_good(w),

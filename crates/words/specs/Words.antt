@@ -12,8 +12,8 @@ unfoldable pub sameTo : (a b : List ℕ) → ℕ → Bool
 sameTo a b zero = true
 sameTo a b (suc k) = sameTo a b k && eqb (at a k) (at b k)
 
-unfoldable pub same : List ℕ → List ℕ → Bool
-same a b = eqb (length a) (length b) && sameTo a b (length a)
+unfoldable pub sameWord : List ℕ → List ℕ → Bool
+sameWord a b = eqb (length a) (length b) && sameTo a b (length a)
 
 -- a number with one digit more; none where the byte is not one of `0` to `9`, or nine digits stand already
 unfoldable pub withDigit : Number → ℕ → Number

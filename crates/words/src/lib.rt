@@ -1,6 +1,6 @@
 // The words behind a program's name, and the files that they name.
 ghost use mathlib.Core.Path.{_≡_};
-ghost use Rattle.words.specs.Words.{same, spelledIn, withDigit};
+ghost use Rattle.words.specs.Words.{sameWord, spelledIn, withDigit};
 
 // What a word spells.
 pub enum Number {
@@ -10,7 +10,7 @@ pub enum Number {
 
 // Whether two words are the same.
 pub fn is_same(a: &[u8], b: &[u8]) -> bool
-    ensures { λ r. ⌜ r ≡ same (now (a .entry)) (now (b .entry)) ⌝ }
+    ensures { λ r. ⌜ r ≡ sameWord (now (a .entry)) (now (b .entry)) ⌝ }
 {
     if a.len() != b.len() {
         return false;

@@ -4,7 +4,7 @@ use native.Mathlib.Omega.{arith}
 use borrow.Author.Needs.{needs}
 use borrow.Author.Tests.{eq-eqb, ne-eqb}
 use lib.ListN.{length}
-use Rattle.words.specs.Words.{sameTo, same}
+use Rattle.words.specs.Words.{sameTo, sameWord}
 use Rattle.words.proofs.Laws.{same-more}
 use Rattle.words.proofs.is_same.Statement.{statement}
 use Rattle.words.proofs.is_same.Tie as tie
@@ -16,7 +16,7 @@ abbrev μ-loop : tie.MeasureT-loop
 μ-loop a b equal₀ k₀ equal k = length a - k
 
 returns : tie.Need-returns Inv-loop μ-loop
-unfolding same
+unfolding sameWord
 returns c = rw (ne-eqb (length (c .before .args .a .now)) (length (c .before .args .b .now)) (λ e. omega arith)) refl
 
 loop-holds : tie.Need-loop-holds Inv-loop μ-loop
@@ -29,7 +29,7 @@ loop-again c =
     (omega arith, long, rw so-far (sym (same-more _ _ _)))
 
 returns-2 : tie.Need-returns-2 Inv-loop μ-loop
-unfolding same
+unfolding sameWord
 returns-2 c =
     let (within, long, so-far) = c .before .loop .inv in
     so-far ∙ rw (eq-eqb _ _ long) (ap (sameTo _ _) (omega arith))

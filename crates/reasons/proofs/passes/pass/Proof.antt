@@ -12,7 +12,7 @@ use Rattle.sums.specs.Sums.{sum}
 use Rattle.sums.proofs.Sums.{sum-none, sum-step, sum-most}
 use Rattle.sums.proofs.Picks.{pick-le}
 use Rattle.sheet.proofs.Accepted.{accepted-few, accepted-contract}
-use Rattle.reasons.specs.Parts.{counted, countedPart, passed}
+use Rattle.reasons.specs.Parts.{counted, countedPart, partTotal}
 use Rattle.reasons.specs.declared.passes.Part.{Part}
 use Rattle.reasons.proofs.passes.pass.Statement.{statement}
 use Rattle.reasons.proofs.passes.pass.Tie as tie
@@ -94,7 +94,7 @@ loop-again c =
     )
 
 returns : tie.Need-returns Inv-loop μ-loop
-unfolding passed
+unfolding partTotal
 returns c =
     let at-start = c .before .before .before .before .before in
     let e : (c .before) .loop .j ≡ at-start .args .c .contracts = omega arith in
