@@ -18,7 +18,8 @@ use Rattle.sums.proofs.First.{first-eq}
 use Rattle.rows.specs.Rows.{carriesLosses, isOutside}
 use Rattle.hour.specs.Sheet.{Sheet, agents, retails, outside}
 use Rattle.hour.specs.Sound.{Sound}
-use Rattle.hour.specs.Balance.{rounded, imported, exported, consumption, consumed, consumptions, ownImport, delivered, entering, leaving, losses, lossShare, commercial, hourDemand, injected, smallExports, dispatchDemand}
+use Rattle.hour.specs.Balance.{rounded, imported, exported, consumption, consumed, consumptions, ownImport, delivered, entering}
+use Rattle.hour.specs.Balance.{leaving, losses, lossShare, commercial, hourDemand, injected, smallExports, dispatchDemand}
 use Rattle.hour.specs.Answer.{firstOver, balanceVerdict}
 use Rattle.hour.proofs.Demand.{weights-long, small-metered}
 use Rattle.balance.specs.Parts.{weighedBy}

@@ -139,7 +139,8 @@ fn of_small(kind: u32, v: u32) -> u32
 fn consumptions(kinds: &[u32], imports: &[u64], exports: &[u64], n: usize, out: &mut [u32])
     requires { ⌜ (n ≤ length (now kinds)) × (n ≤ length (now imports)) × (n ≤ length (now exports)) × (n ≤ length (now out)) ⌝ }
     requires { ⌜ ((a : ℕ) → a < n → at (now imports) a ≤ mostExact) ⌝ }
-    ensures { λ _. ⌜ Filled 0 (now (out .entry)) (now (out .exit)) n (λ a. pick (carriesLosses (at (now (kinds .entry)) a)) (rounded (at (now (imports .entry)) a - at (now (exports .entry)) a))) ⌝ }
+    ensures { λ _. ⌜ Filled 0 (now (out .entry)) (now (out .exit)) n
+        (λ a. pick (carriesLosses (at (now (kinds .entry)) a)) (rounded (at (now (imports .entry)) a - at (now (exports .entry)) a))) ⌝ }
 {
     let mut a = 0;
     while a < n {
@@ -152,7 +153,8 @@ fn consumptions(kinds: &[u32], imports: &[u64], exports: &[u64], n: usize, out: 
 fn generators(kinds: &[u32; Agent::MOST], values: &[u64; Agent::MOST], n: usize, out: &mut [u32])
     requires { ⌜ (n ≤ mostAgents) × (n ≤ length (now out)) ⌝ }
     requires { ⌜ ((a : ℕ) → a < n → at (now values) a ≤ mostExact) ⌝ }
-    ensures { λ _. ⌜ Filled 0 (now (out .entry)) (now (out .exit)) n (λ a. pick (not (carriesLosses (at (now (kinds .entry)) a))) (rounded (at (now (values .entry)) a))) ⌝ }
+    ensures { λ _. ⌜ Filled 0 (now (out .entry)) (now (out .exit)) n
+        (λ a. pick (not (carriesLosses (at (now (kinds .entry)) a))) (rounded (at (now (values .entry)) a))) ⌝ }
 {
     let mut a = 0;
     while a < n {
@@ -164,7 +166,8 @@ fn generators(kinds: &[u32; Agent::MOST], values: &[u64; Agent::MOST], n: usize,
 // A small generator's exports are kept; nothing of any other agent.
 fn keep_small(kinds: &[u32; Agent::MOST], n: usize, out: &mut [u32])
     requires { ⌜ (n ≤ mostAgents) × (n ≤ length (now out)) ⌝ }
-    ensures { λ _. ⌜ Filled 0 (now (out .entry)) (now (out .exit)) n (λ a. pick (isOutside (at (now (kinds .entry)) a)) (at (now (out .entry)) a)) ⌝ }
+    ensures { λ _. ⌜ Filled 0 (now (out .entry)) (now (out .exit)) n
+        (λ a. pick (isOutside (at (now (kinds .entry)) a)) (at (now (out .entry)) a)) ⌝ }
 {
     let mut a = 0;
     while a < n {
@@ -223,7 +226,8 @@ fn first_over(
     n: usize,
 ) -> usize
     requires { ⌜ n ≤ mostAgents ⌝ }
-    ensures { λ r. ⌜ r ≡ first n (λ a. carriesLosses (at (now (kinds .entry)) a) && ltb (at (now (imports .entry)) a) (at (now (exports .entry)) a)) ⌝ }
+    ensures { λ r. ⌜ r ≡ first n
+        (λ a. carriesLosses (at (now (kinds .entry)) a) && ltb (at (now (imports .entry)) a) (at (now (exports .entry)) a)) ⌝ }
 {
     let mut a = 0;
     while a < n {
@@ -292,7 +296,8 @@ fn read_columns(
     used: &mut [u32; Agent::MOST],
 ) -> usize
     requires { ⌜ readOf (now s) ≡ Reading.Accepted c ⌝ }
-    ensures { λ r. ⌜ Read (columnsOf (now (s .entry)) c) (c .agents) (now (kinds .entry)) (now (kinds .exit)) (now (taken .entry)) (now (taken .exit)) (now (given .entry)) (now (given .exit)) (now (used .entry)) (now (used .exit)) r ⌝ }
+    ensures { λ r. ⌜ Read (columnsOf (now (s .entry)) c) (c .agents) (now (kinds .entry)) (now (kinds .exit))
+        (now (taken .entry)) (now (taken .exit)) (now (given .entry)) (now (given .exit)) (now (used .entry)) (now (used .exit)) r ⌝ }
 {
     let n = c.agents;
     let mut imports = [0u64; Agent::MOST];
@@ -317,7 +322,9 @@ pub fn weigh_read(
     imports: &mut [u32; Agent::MOST],
 ) -> Weight
     requires { ⌜ readOf (now s) ≡ Reading.Accepted c ⌝ }
-    ensures { λ r. ⌜ Weighing (columnsOf (now (s .entry)) c) (ledger (now (kinds .entry)) (now (shares .entry)) (now (commercial .entry)) (now (own .entry)) (now (imports .entry))) (ledger (now (kinds .exit)) (now (shares .exit)) (now (commercial .exit)) (now (own .exit)) (now (imports .exit))) r ⌝ }
+    ensures { λ r. ⌜ Weighing (columnsOf (now (s .entry)) c)
+        (ledger (now (kinds .entry)) (now (shares .entry)) (now (commercial .entry)) (now (own .entry)) (now (imports .entry)))
+        (ledger (now (kinds .exit)) (now (shares .exit)) (now (commercial .exit)) (now (own .exit)) (now (imports .exit))) r ⌝ }
 {
     let n = c.agents;
     let over = read_columns(s, c, kinds, imports, own, commercial);

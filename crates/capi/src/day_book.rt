@@ -27,7 +27,8 @@ pub extern "C" fn naomhral_book_enter(
     bought: u32,
     price: u32,
 ) -> u32
-    ensures { λ r. ⌜ CellsTold (cellsVerdict (now (book .entry)) hour (entryVerdict hour demand losses bought price)) (withPlaceCells (now (book .entry)) hour (holding demand losses bought price)) (now (book .entry)) r (now (book .exit)) ⌝ }
+    ensures { λ r. ⌜ CellsTold (cellsVerdict (now (book .entry)) hour (entryVerdict hour demand losses bought price))
+        (withPlaceCells (now (book .entry)) hour (holding demand losses bought price)) (now (book .entry)) r (now (book .exit)) ⌝ }
 {
     number_of(book_cells::enter(book, hour, demand, losses, bought, price))
 }
@@ -35,7 +36,8 @@ pub extern "C" fn naomhral_book_enter(
 // Removes an hour.
 #[no_mangle]
 pub extern "C" fn naomhral_book_remove(book: &mut [u64], hour: u32) -> u32
-    ensures { λ r. ⌜ CellsTold (cellsVerdict (now (book .entry)) hour (slotVerdict hour)) (withPlaceCells (now (book .entry)) hour blank) (now (book .entry)) r (now (book .exit)) ⌝ }
+    ensures { λ r. ⌜ CellsTold (cellsVerdict (now (book .entry)) hour (slotVerdict hour))
+        (withPlaceCells (now (book .entry)) hour blank) (now (book .entry)) r (now (book .exit)) ⌝ }
 {
     number_of(book_cells::remove(book, hour))
 }
@@ -49,7 +51,8 @@ pub extern "C" fn naomhral_entry(
     figures: &[u32],
     answer: &mut [u32],
 ) -> u32
-    ensures { λ r. ⌜ EntryTold (now (sheet .entry)) (now (summary .entry)) (now (figures .entry)) (now (answer .entry)) r (now (answer .exit)) ⌝ }
+    ensures { λ r. ⌜ EntryTold (now (sheet .entry)) (now (summary .entry)) (now (figures .entry))
+        (now (answer .entry)) r (now (answer .exit)) ⌝ }
 {
     if answer.len() < 6 {
         return Refusal::ROOM;

@@ -91,7 +91,8 @@ pub extern "C" fn naomhral_write(
     out: &mut [u8],
     answer: &mut [u32],
 ) -> u32
-    ensures { λ r. ⌜ WriteTold (numbers (now (agents .entry)) (now (boundaries .entry)) (now (plants .entry)) (now (contracts .entry))) (now (out .entry)) (now (answer .entry)) r (now (out .exit)) (now (answer .exit)) ⌝ }
+    ensures { λ r. ⌜ WriteTold (numbers (now (agents .entry)) (now (boundaries .entry)) (now (plants .entry)) (now (contracts .entry)))
+        (now (out .entry)) (now (answer .entry)) r (now (out .exit)) (now (answer .exit)) ⌝ }
 {
     if answer.len() < 3 {
         return Refusal::ROOM;
@@ -121,7 +122,10 @@ pub extern "C" fn naomhral_settle(
     amounts: &mut [u32],
     summary: &mut [u32],
 ) -> u32
-    ensures { λ r. ⌜ SettleTold (now (sheet .entry)) (lent (now (figures .entry)) (now (money .entry)) (now (schedule .entry)) (now (amounts .entry))) (lent (now (figures .exit)) (now (money .exit)) (now (schedule .exit)) (now (amounts .exit))) (now (summary .entry)) r (now (summary .exit)) ⌝ }
+    ensures { λ r. ⌜ SettleTold (now (sheet .entry))
+        (lent (now (figures .entry)) (now (money .entry)) (now (schedule .entry)) (now (amounts .entry)))
+        (lent (now (figures .exit)) (now (money .exit)) (now (schedule .exit)) (now (amounts .exit)))
+        (now (summary .entry)) r (now (summary .exit)) ⌝ }
 {
     if summary.len() < 5 {
         return Refusal::ROOM;
@@ -143,7 +147,9 @@ pub extern "C" fn naomhral_check(
     amounts: &[u32],
     answer: &mut [u32],
 ) -> u32
-    ensures { λ r. ⌜ CheckTold (now (sheet .entry)) price (stated (now (figures .entry)) (now (money .entry)) (now (schedule .entry)) (now (amounts .entry))) (now (answer .entry)) r (now (answer .exit)) ⌝ }
+    ensures { λ r. ⌜ CheckTold (now (sheet .entry)) price
+        (stated (now (figures .entry)) (now (money .entry)) (now (schedule .entry)) (now (amounts .entry)))
+        (now (answer .entry)) r (now (answer .exit)) ⌝ }
 {
     if answer.len() < 2 {
         return Refusal::ROOM;

@@ -13,7 +13,8 @@ pub extern "C" fn naomhral_mend(
     report: &mut [u32],
     answer: &mut [u32],
 ) -> u32
-    ensures { λ r. ⌜ MendTold (now (sheet .entry)) (now (copy .entry)) (now (report .entry)) (now (answer .entry)) r (now (copy .exit)) (now (report .exit)) (now (answer .exit)) ⌝ }
+    ensures { λ r. ⌜ MendTold (now (sheet .entry)) (now (copy .entry)) (now (report .entry)) (now (answer .entry)) r
+        (now (copy .exit)) (now (report .exit)) (now (answer .exit)) ⌝ }
 {
     if answer.len() < 3 {
         return Refusal::ROOM;

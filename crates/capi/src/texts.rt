@@ -4,7 +4,8 @@ ghost use Prim.Native.Nat.{_≤_};
 ghost use lib.ListN.{length};
 ghost use Rattle.sums.specs.Lists.{at, Filled};
 ghost use Rattle.settle.specs.Settled.{lent};
-ghost use Rattle.capi.specs.TextTold.{narrowed, faultTold, printedAnswer, SheetTextTold, StatementTextTold, madeAnswer, MadeTold, statementAnswer, statedCounts, StatementTold};
+ghost use Rattle.capi.specs.TextTold.{narrowed, faultTold, printedAnswer, SheetTextTold, StatementTextTold, madeAnswer};
+ghost use Rattle.capi.specs.TextTold.{MadeTold, statementAnswer, statedCounts, StatementTold};
 use crate::tell;
 use printing::Printed;
 use refusals::Refusal;
@@ -49,7 +50,8 @@ fn tell_printed(p: Printed, answer: &mut [u32]) -> u32
 // Puts the text of a sheet into a lent buffer: number, place and length go to the answer list, and the number is returned.
 #[no_mangle]
 pub extern "C" fn naomhral_sheet_text(sheet: &[u8], out: &mut [u8], answer: &mut [u32]) -> u32
-    ensures { λ r. ⌜ SheetTextTold (now (sheet .entry)) (now (out .entry)) (now (answer .entry)) r (now (out .exit)) (now (answer .exit)) ⌝ }
+    ensures { λ r. ⌜ SheetTextTold (now (sheet .entry)) (now (out .entry)) (now (answer .entry)) r
+        (now (out .exit)) (now (answer .exit)) ⌝ }
 {
     if answer.len() < 3 {
         return Refusal::ROOM;
@@ -62,7 +64,8 @@ pub extern "C" fn naomhral_sheet_text(sheet: &[u8], out: &mut [u8], answer: &mut
 // number is returned.
 #[no_mangle]
 pub extern "C" fn naomhral_statement_text(sheet: &[u8], out: &mut [u8], answer: &mut [u32]) -> u32
-    ensures { λ r. ⌜ StatementTextTold (now (sheet .entry)) (now (out .entry)) (now (answer .entry)) r (now (out .exit)) (now (answer .exit)) ⌝ }
+    ensures { λ r. ⌜ StatementTextTold (now (sheet .entry)) (now (out .entry)) (now (answer .entry)) r
+        (now (out .exit)) (now (answer .exit)) ⌝ }
 {
     if answer.len() < 3 {
         return Refusal::ROOM;
@@ -143,7 +146,10 @@ pub extern "C" fn naomhral_read_statement(
     amounts: &mut [u32],
     answer: &mut [u32],
 ) -> u32
-    ensures { λ r. ⌜ StatementTold (now (text .entry)) (statedCounts agents plants contracts) (lent (now (figures .entry)) (now (money .entry)) (now (schedule .entry)) (now (amounts .entry))) (lent (now (figures .exit)) (now (money .exit)) (now (schedule .exit)) (now (amounts .exit))) (now (answer .entry)) r (now (answer .exit)) ⌝ }
+    ensures { λ r. ⌜ StatementTold (now (text .entry)) (statedCounts agents plants contracts)
+        (lent (now (figures .entry)) (now (money .entry)) (now (schedule .entry)) (now (amounts .entry)))
+        (lent (now (figures .exit)) (now (money .exit)) (now (schedule .exit)) (now (amounts .exit)))
+        (now (answer .entry)) r (now (answer .exit)) ⌝ }
 {
     if answer.len() < 3 {
         return Refusal::ROOM;

@@ -51,7 +51,10 @@ pub extern "C" fn naomhral_day(
     amounts: &mut [u32],
     summaries: &mut [u32],
 ) -> u32
-    ensures { λ r. ⌜ DayTold (now (sheets .entry)) (now (lengths .entry)) (lent (now (figures .entry)) (now (money .entry)) (now (schedule .entry)) (now (amounts .entry))) (lent (now (figures .exit)) (now (money .exit)) (now (schedule .exit)) (now (amounts .exit))) (now (summaries .entry)) r (now (summaries .exit)) ⌝ }
+    ensures { λ r. ⌜ DayTold (now (sheets .entry)) (now (lengths .entry))
+        (lent (now (figures .entry)) (now (money .entry)) (now (schedule .entry)) (now (amounts .entry)))
+        (lent (now (figures .exit)) (now (money .exit)) (now (schedule .exit)) (now (amounts .exit)))
+        (now (summaries .entry)) r (now (summaries .exit)) ⌝ }
 {
     if summaries.len() < ALL {
         return Refusal::ROOM;

@@ -45,7 +45,7 @@ fn say_of_statement(number: u32) -> bool {
             b"The loss shares don't follow: they don't sum to the losses, or one is 1 kWh or more off its proportion or a generator's.\n",
         ),
         Refusal::SCHEDULE => say(
-            b"The schedule doesn't follow: a plant is out of bounds, the sum isn't what is to be met, or a cheaper plant has energy left.\n",
+            b"The schedule doesn't follow: a plant is out of bounds, the sum isn't what is to be met, or a cheaper one has energy left.\n",
         ),
         Refusal::PRICE => say(
             b"The price isn't the highest offer of a flexible plant in their own schedule.\n",

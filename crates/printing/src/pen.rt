@@ -20,7 +20,8 @@ pub fn byte(s: &mut [u8], at: usize, b: u8) -> usize
 }
 
 pub fn word(s: &mut [u8], at: usize, word: &[u8]) -> usize
-    ensures { λ r. ⌜ PutInRoom (now (word .entry) ++ drop at (now (s .entry))) (now (s .entry)) (now (s .exit)) at (length (now (word .entry))) r ⌝ }
+    ensures { λ r. ⌜ PutInRoom (now (word .entry) ++ drop at (now (s .entry)))
+        (now (s .entry)) (now (s .exit)) at (length (now (word .entry))) r ⌝ }
 {
     if (at < word.len()) | (s.len() < at) {
         return at;
@@ -52,7 +53,8 @@ pub fn signed(s: &mut [u8], at: usize, x: i64) -> usize
 
 // What stands in the scratch from `from` on, at the front of a lent buffer: refusal 11 where it is too short.
 pub fn give(s: &[u8], from: usize, out: &mut [u8]) -> Printed
-    ensures { λ r. ⌜ Prints (refusedUnless (leb (length (drop from (now (s .entry)))) (length (now (out .entry)))) noRoom 0) (drop from (now (s .entry))) (now (out .entry)) r (now (out .exit)) ⌝ }
+    ensures { λ r. ⌜ Prints (refusedUnless (leb (length (drop from (now (s .entry)))) (length (now (out .entry)))) noRoom 0)
+        (drop from (now (s .entry))) (now (out .entry)) r (now (out .exit)) ⌝ }
 {
     if s.len() < from {
         return Printed::Done(0);

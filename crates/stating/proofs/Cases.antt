@@ -12,7 +12,8 @@ use Rattle.text.specs.Faults.{faultNumber, earlier}
 use Rattle.text.specs.Fields.{allDigits, worth, parsedAs, parsed, owedAs, owedIn}
 use Rattle.text.specs.Lines.{cut, over, same, wordOf, named, numbered, owing, step, readLine, lineFault}
 use Rattle.text.specs.declared.Fault.{Fault}
-use Rattle.stating.specs.Rows.{asks, rowsFor, rowsAhead, rowNumber, rowFault, statementFault, withMark, markRow, markLine, unmarked, markedIn, lastFault, figuresLine, moneyLine, secondLine, priceLine, priceIn}
+use Rattle.stating.specs.Rows.{asks, rowsFor, rowsAhead, rowNumber, rowFault, statementFault, withMark, markRow, markLine}
+use Rattle.stating.specs.Rows.{unmarked, markedIn, lastFault, figuresLine, moneyLine, secondLine, priceLine, priceIn}
 use Rattle.stating.specs.Read.{listsFit, statementAfter, statementOf, statedIn}
 use Rattle.stating.specs.Steps.{fourLists}
 use Rattle.stating.specs.declared.Statement.{Statement}
@@ -118,7 +119,9 @@ answers : map (statementOf (counted 1 1 1) before) texts
     ∷ Statement.Wrong 3 Fault.Twice
     ∷ Statement.Wrong 3 Fault.NotANumber
     ∷ []
-unfolding first stop listTo faultNumber earlier allDigits worth parsedAs parsed owedAs owedIn cut over same wordOf named numbered owing step readLine lineFault asks rowsFor rowsAhead rowNumber rowFault statementFault withMark markRow markLine unmarked markedIn lastFault priceLine priceIn listsFit statementAfter statementOf
+unfolding first stop listTo faultNumber earlier allDigits worth parsedAs parsed owedAs owedIn cut over same wordOf named
+    numbered owing step readLine lineFault asks rowsFor rowsAhead rowNumber rowFault statementFault withMark markRow markLine
+    unmarked markedIn lastFault priceLine priceIn listsFit statementAfter statementOf
 answers = refl
 
 -- the numbers of both that are right, which are the same
@@ -126,7 +129,8 @@ abbrev after : Lent
 after = fourLists (1 ∷ 2 ∷ 3 ∷ 4 ∷ 5 ∷ 6 ∷ 96 ∷ []) (negsuc 6 ∷ []) (8 ∷ []) (9 ∷ [])
 
 numbers-read : statedIn ours before ∷ statedIn another before ∷ [] ≡ after ∷ after ∷ []
-unfolding faultNumber allDigits worth parsedAs parsed owedAs owedIn cut over same wordOf named numbered owing step readLine figuresLine moneyLine secondLine
+unfolding faultNumber allDigits worth parsedAs parsed owedAs owedIn cut over same wordOf named numbered owing step readLine
+    figuresLine moneyLine secondLine
 numbers-read = refl
 
 -- before any line: two agents in lists for one, 65 agents, and a list too short with a first line that is wrong; and a sheet with no
@@ -137,5 +141,7 @@ first-of-all : statementOf (counted 2 1 1) before ours
     ∷ statementOf (counted 0 0 0) before (112 ∷ 114 ∷ 105 ∷ 99 ∷ 101 ∷ 32 ∷ 48 ∷ [])
     ∷ []
     ≡ Statement.Wrong 0 Fault.Rows ∷ Statement.Wrong 0 Fault.Rows ∷ Statement.Wrong 0 Fault.Rows ∷ Statement.Price 0 ∷ []
-unfolding first stop listTo faultNumber earlier allDigits worth parsedAs parsed owedAs owedIn cut over same wordOf named numbered owing step readLine lineFault asks rowsFor rowsAhead rowNumber rowFault statementFault withMark markRow markLine unmarked markedIn lastFault priceLine priceIn listsFit statementAfter statementOf
+unfolding first stop listTo faultNumber earlier allDigits worth parsedAs parsed owedAs owedIn cut over same wordOf named
+    numbered owing step readLine lineFault asks rowsFor rowsAhead rowNumber rowFault statementFault withMark markRow markLine
+    unmarked markedIn lastFault priceLine priceIn listsFit statementAfter statementOf
 first-of-all = refl

@@ -22,7 +22,8 @@ use Rattle.text.specs.Lines.{readLine, lineFault}
 use Rattle.text.specs.declared.Fault.{Fault}
 use Rattle.text.specs.declared.Line.{Line}
 use Rattle.text.proofs.Faults.{later-right}
-use Rattle.stating.specs.Rows.{Marked, asks, rowsFor, rowsAhead, allRows, rowNumber, rowPlace, rowFault, statementFault, markRow, markLine, complete}
+use Rattle.stating.specs.Rows.{Marked, asks, rowsFor, rowsAhead, allRows, rowNumber, rowPlace, rowFault, statementFault}
+use Rattle.stating.specs.Rows.{markRow, markLine, complete}
 
 -- ---- the place of a row
 pub place-within : (c : Counts) (l : Line) → rowNumber l < rowsFor c (l .word) → rowPlace c l < allRows c

@@ -83,7 +83,8 @@ fn put_line(
     schedule: &mut [u32],
     amounts: &mut [u32],
 )
-    ensures { λ _. ⌜ fourLists (now (figures .exit)) (now (money .exit)) (now (schedule .exit)) (now (amounts .exit)) ≡ withLine l (fourLists (now (figures .entry)) (now (money .entry)) (now (schedule .entry)) (now (amounts .entry))) ⌝ }
+    ensures { λ _. ⌜ fourLists (now (figures .exit)) (now (money .exit)) (now (schedule .exit)) (now (amounts .exit))
+        ≡ withLine l (fourLists (now (figures .entry)) (now (money .entry)) (now (schedule .entry)) (now (amounts .entry))) ⌝ }
 {
     put_figures(figures, l);
     put_money(money, l);
@@ -98,7 +99,9 @@ pub(crate) fn fill(
     schedule: &mut [u32],
     amounts: &mut [u32],
 ) -> u32
-    ensures { λ r. ⌜ (fourLists (now (figures .exit)) (now (money .exit)) (now (schedule .exit)) (now (amounts .exit)) ≡ statedIn (now (s .entry)) (fourLists (now (figures .entry)) (now (money .entry)) (now (schedule .entry)) (now (amounts .entry)))) × (r ≡ priceIn (now (s .entry))) ⌝ }
+    ensures { λ r. ⌜ (fourLists (now (figures .exit)) (now (money .exit)) (now (schedule .exit)) (now (amounts .exit))
+        ≡ statedIn (now (s .entry)) (fourLists (now (figures .entry)) (now (money .entry)) (now (schedule .entry)) (now (amounts .entry))))
+        × (r ≡ priceIn (now (s .entry))) ⌝ }
 {
     let mut price: u32 = 0;
     let mut i: usize = 0;

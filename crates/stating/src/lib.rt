@@ -29,7 +29,8 @@ fn index(n: u32) -> usize
 
 // The counts are within a sheet's limits, and the lists have room.
 fn lists_fit(c: Counts, figures: &[u32], money: &[i64], schedule: &[u32], amounts: &[u32]) -> bool
-    ensures { λ r. ⌜ r ≡ listsFit c (fourLists (now (figures .entry)) (now (money .entry)) (now (schedule .entry)) (now (amounts .entry))) ⌝ }
+    ensures { λ r. ⌜ r ≡ listsFit c
+        (fourLists (now (figures .entry)) (now (money .entry)) (now (schedule .entry)) (now (amounts .entry))) ⌝ }
 {
     if !rows::few(c.agents, c.boundaries, c.plants, c.contracts) {
         return false;
@@ -50,7 +51,9 @@ pub fn read(
     schedule: &mut [u32],
     amounts: &mut [u32],
 ) -> Statement
-    ensures { λ r. ⌜ StatementInto (now (text .entry)) c (fourLists (now (figures .entry)) (now (money .entry)) (now (schedule .entry)) (now (amounts .entry))) r (fourLists (now (figures .exit)) (now (money .exit)) (now (schedule .exit)) (now (amounts .exit))) ⌝ }
+    ensures { λ r. ⌜ StatementInto (now (text .entry)) c
+        (fourLists (now (figures .entry)) (now (money .entry)) (now (schedule .entry)) (now (amounts .entry))) r
+        (fourLists (now (figures .exit)) (now (money .exit)) (now (schedule .exit)) (now (amounts .exit))) ⌝ }
 {
     if !lists_fit(c, figures, money, schedule, amounts) {
         return Statement::Wrong(0, Fault::Rows);

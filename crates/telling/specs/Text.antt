@@ -12,6 +12,8 @@ use Rattle.sheet.specs.declared.Counts.{Counts}
 use Rattle.hour.specs.Lines.{cellsPerAgent}
 use Rattle.hour.specs.Answer.{Lent, shareIn, ownIn, importIn, contractedIn, boughtIn, soldIn, moneyIn, scheduleIn, amountIn}
 use Rattle.printing.specs.Text.{signed, linesTo}
+use Rattle.printing.specs.Page.{Prints}
+use Rattle.printing.specs.declared.Printed.{Printed}
 use Rattle.text.specs.Lines.{agentWord, plantWord, contractWord, priceWord}
 use Rattle.text.specs.Written.{joined, rowText}
 
@@ -49,3 +51,8 @@ statementVerdict c l size room =
     0
     ∷ refusedUnless (leb size room) noRoom 0
     ∷ [])
+
+-- the promise of writing it, into a buffer that holds `before`
+abbrev pub StatementWritten : Counts → (price : ℕ) → Lent → (before : List ℕ) → Printed → (after : List ℕ) → Type 0
+StatementWritten c price l before r after =
+    Prints (statementVerdict c l (length (statementText c price l)) (length before)) (statementText c price l) before r after

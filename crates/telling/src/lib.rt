@@ -11,7 +11,7 @@ ghost use Rattle.sheet.specs.Reading.{readOf};
 ghost use Rattle.sheet.specs.declared.Reading.{Reading as Reading·answer};
 ghost use Rattle.settle.specs.Settled.{lent};
 ghost use Rattle.printing.specs.Page.{Prints};
-ghost use Rattle.telling.specs.Text.{listsServe, statementText, statementVerdict};
+ghost use Rattle.telling.specs.Text.{listsServe, statementText, StatementWritten};
 ghost use Rattle.telling.specs.Tell.{ownStatement, tellVerdict};
 ghost use Rattle.telling.specs.Enough.{Enough};
 use printing::Printed;
@@ -50,8 +50,10 @@ fn put_statement(
     schedule: &[u32],
     amounts: &[u32],
 ) -> usize
-    requires { ⌜ Enough c (length (now figures)) (length (now money)) (length (now schedule)) (length (now amounts)) × (27547 ≤ length (now s)) ⌝ }
-    ensures { λ r. ⌜ drop r (now (s .exit)) ≡ statementText c price (lent (now (figures .entry)) (now (money .entry)) (now (schedule .entry)) (now (amounts .entry))) ⌝ }
+    requires { ⌜ Enough c (length (now figures)) (length (now money)) (length (now schedule)) (length (now amounts))
+        × (27547 ≤ length (now s)) ⌝ }
+    ensures { λ r. ⌜ drop r (now (s .exit))
+        ≡ statementText c price (lent (now (figures .entry)) (now (money .entry)) (now (schedule .entry)) (now (amounts .entry))) ⌝ }
 {
     let i = lines::put_list(s, s.len(), b"contract", amounts, c.contracts);
     let j = lines::put_list(s, i, b"plant", schedule, c.plants);
@@ -69,7 +71,9 @@ pub fn write(
     amounts: &[u32],
     out: &mut [u8],
 ) -> Printed
-    ensures { λ r. ⌜ Prints (statementVerdict c (lent (now (figures .entry)) (now (money .entry)) (now (schedule .entry)) (now (amounts .entry))) (length (statementText c price (lent (now (figures .entry)) (now (money .entry)) (now (schedule .entry)) (now (amounts .entry))))) (length (now (out .entry)))) (statementText c price (lent (now (figures .entry)) (now (money .entry)) (now (schedule .entry)) (now (amounts .entry)))) (now (out .entry)) r (now (out .exit)) ⌝ }
+    ensures { λ r. ⌜ StatementWritten c price
+        (lent (now (figures .entry)) (now (money .entry)) (now (schedule .entry)) (now (amounts .entry)))
+        (now (out .entry)) r (now (out .exit)) ⌝ }
 {
     if !lists_serve(c, figures.len(), money.len(), schedule.len(), amounts.len()) {
         return Printed::Refused(Refusal {
@@ -85,7 +89,8 @@ pub fn write(
 // Our statement of an accepted sheet.
 fn tell_accepted(sheet: &[u8], c: Counts, out: &mut [u8]) -> Printed
     requires { ⌜ readOf (now sheet) ≡ Reading·answer.Accepted c ⌝ }
-    ensures { λ r. ⌜ Prints (tellVerdict (now (sheet .entry)) (length (now (out .entry)))) (ownStatement (now (sheet .entry))) (now (out .entry)) r (now (out .exit)) ⌝ }
+    ensures { λ r. ⌜ Prints (tellVerdict (now (sheet .entry)) (length (now (out .entry)))) (ownStatement (now (sheet .entry)))
+        (now (out .entry)) r (now (out .exit)) ⌝ }
 {
     let mut figures = [0u32; Agent::CELLS * Agent::MOST];
     let mut money = [0i64; Agent::MOST];
@@ -103,7 +108,8 @@ fn tell_accepted(sheet: &[u8], c: Counts, out: &mut [u8]) -> Printed
 
 // Our statement of the hour of any bytes, put into a lent buffer: settling's refusals, and 11 for want of room.
 pub fn tell(sheet: &[u8], out: &mut [u8]) -> Printed
-    ensures { λ r. ⌜ Prints (tellVerdict (now (sheet .entry)) (length (now (out .entry)))) (ownStatement (now (sheet .entry))) (now (out .entry)) r (now (out .exit)) ⌝ }
+    ensures { λ r. ⌜ Prints (tellVerdict (now (sheet .entry)) (length (now (out .entry)))) (ownStatement (now (sheet .entry)))
+        (now (out .entry)) r (now (out .exit)) ⌝ }
 {
     match sheet::read(sheet) {
         Reading::Accepted(c) => tell_accepted(sheet, c, out),

@@ -15,7 +15,8 @@ use text::puts;
 // Agent a's line: its word has 5 bytes, each of seven numbers 21 with its space, its money 22, and the line end is one.
 fn put_agent(s: &mut [u8], at: usize, figures: &[u32], money: &[i64], a: usize) -> usize
     requires { ⌜ (a < mostAgents) × (6 * a + 6 ≤ length (now figures)) × (a < length (now money)) ⌝ }
-    ensures { λ r. ⌜ PutInRoom (agentLine (lent (now (figures .entry)) (now (money .entry)) [] []) a (drop at (now (s .entry)))) (now (s .entry)) (now (s .exit)) at 175 r ⌝ }
+    ensures { λ r. ⌜ PutInRoom (agentLine (lent (now (figures .entry)) (now (money .entry)) [] []) a (drop at (now (s .entry))))
+        (now (s .entry)) (now (s .exit)) at 175 r ⌝ }
 {
     let i = pen::byte(s, at, b'\n');
     let owed = money[a];
@@ -37,7 +38,8 @@ fn put_agent(s: &mut [u8], at: usize, figures: &[u32], money: &[i64], a: usize) 
 // The lines of the first n agents.
 pub(crate) fn put_agents(s: &mut [u8], at: usize, figures: &[u32], money: &[i64], n: usize) -> usize
     requires { ⌜ (n ≤ mostAgents) × (6 * n ≤ length (now figures)) × (n ≤ length (now money)) ⌝ }
-    ensures { λ r. ⌜ PutInRoom (linesTo (agentLine (lent (now (figures .entry)) (now (money .entry)) [] [])) n (drop at (now (s .entry)))) (now (s .entry)) (now (s .exit)) at (175 * n) r ⌝ }
+    ensures { λ r. ⌜ PutInRoom (linesTo (agentLine (lent (now (figures .entry)) (now (money .entry)) [] [])) n (drop at (now (s .entry))))
+        (now (s .entry)) (now (s .exit)) at (175 * n) r ⌝ }
 {
     let mut i = at;
     let mut left = n;
@@ -51,7 +53,9 @@ pub(crate) fn put_agents(s: &mut [u8], at: usize, figures: &[u32], money: &[i64]
 // The first n rows of a list, each with its number behind the word: of at most 8 bytes, two numbers and a line end.
 pub(crate) fn put_list(s: &mut [u8], at: usize, word: &[u8], list: &[u32], n: usize) -> usize
     requires { ⌜ (n ≤ mostContracts) × (n ≤ length (now list)) × (length (now word) ≤ 8) ⌝ }
-    ensures { λ r. ⌜ PutInRoom (linesTo (λ i. rowText (now (word .entry)) (i ∷ getD (now (list .entry)) i 0 ∷ [])) n (drop at (now (s .entry)))) (now (s .entry)) (now (s .exit)) at (51 * n) r ⌝ }
+    ensures { λ r. ⌜ PutInRoom
+        (linesTo (λ i. rowText (now (word .entry)) (i ∷ getD (now (list .entry)) i 0 ∷ [])) n (drop at (now (s .entry))))
+        (now (s .entry)) (now (s .exit)) at (51 * n) r ⌝ }
 {
     let mut i = at;
     let mut left = n;

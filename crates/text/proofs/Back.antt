@@ -16,7 +16,8 @@ use Rattle.printing.specs.Text.{spell, decimal}
 use Rattle.printing.proofs.Digits.{tenth}
 use Rattle.text.specs.Faults.{faultNumber}
 use Rattle.text.specs.Fields.{isDigit, allDigits, isNumber, worth, parsedAs, parsed}
-use Rattle.text.specs.Lines.{separator, newline, cut, lines, pieces, over, step, emptyLine, named, numbered, same, agentWord, boundaryWord, plantWord, contractWord, priceWord, wordOf, readLine, lineFault}
+use Rattle.text.specs.Lines.{separator, newline, cut, lines, pieces, over, step, emptyLine, named, numbered, same}
+use Rattle.text.specs.Lines.{agentWord, boundaryWord, plantWord, contractWord, priceWord, wordOf, readLine, lineFault}
 use Rattle.text.specs.Written.{joined, rowText}
 use Rattle.text.specs.declared.Fault.{Fault}
 use Rattle.text.specs.declared.Parsed.{Parsed}
@@ -185,7 +186,10 @@ numbers-back l (n ∷ ns) f p q h =
     let b : l .count + 1 - 1 ≡ suc (l .count - 1) = omega arith in
     ap (λ (x : Line). over step x (texts ns)) (step-number l n f p (omega arith) (h .0))
     ∙ numbers-back (with-one l n) ns refl (omega arith) (omega arith) (h .1)
-    ∙ ap₂ (λ (x y : ℕ). record { count = x; word = l .word; numbers = sets (set (l .numbers) (l .count - 1) n) y ns; money = l .money; fault = Fault.None }) a b
+    ∙ ap₂ (λ (x y : ℕ). with-all x (sets (set (l .numbers) (l .count - 1) n) y ns)) a b
+  where
+    with-all : ℕ → List ℕ → Line
+    with-all x ns = record { count = x; word = l .word; numbers = ns; money = l .money; fault = Fault.None }
 
 -- a word that begins a line: known, and no separator, line end or `#` in front
 pub record Known (word : List ℕ) : Type 0 where
@@ -256,7 +260,13 @@ row-first word ns rest k =
 pub agent-known : Known agentWord
 unfolding wordOf same
 agent-known =
-    record { apart = (refl, (refl, (refl, (refl, (refl, tt))))); one = (refl, (refl, (refl, (refl, (refl, tt))))); some = omega arith; known = omega arith; plain = λ ns. refl }
+    record {
+      apart = (refl, (refl, (refl, (refl, (refl, tt)))));
+      one = (refl, (refl, (refl, (refl, (refl, tt)))));
+      some = omega arith;
+      known = omega arith;
+      plain = λ ns. refl;
+    }
 
 pub boundary-known : Known boundaryWord
 unfolding wordOf same
@@ -272,12 +282,24 @@ boundary-known =
 pub plant-known : Known plantWord
 unfolding wordOf same
 plant-known =
-    record { apart = (refl, (refl, (refl, (refl, (refl, tt))))); one = (refl, (refl, (refl, (refl, (refl, tt))))); some = omega arith; known = omega arith; plain = λ ns. refl }
+    record {
+      apart = (refl, (refl, (refl, (refl, (refl, tt)))));
+      one = (refl, (refl, (refl, (refl, (refl, tt)))));
+      some = omega arith;
+      known = omega arith;
+      plain = λ ns. refl;
+    }
 
 pub price-known : Known priceWord
 unfolding wordOf same
 price-known =
-    record { apart = (refl, (refl, (refl, (refl, (refl, tt))))); one = (refl, (refl, (refl, (refl, (refl, tt))))); some = omega arith; known = omega arith; plain = λ ns. refl }
+    record {
+      apart = (refl, (refl, (refl, (refl, (refl, tt)))));
+      one = (refl, (refl, (refl, (refl, (refl, tt)))));
+      some = omega arith;
+      known = omega arith;
+      plain = λ ns. refl;
+    }
 
 pub contract-known : Known contractWord
 unfolding wordOf same

@@ -37,7 +37,8 @@ size-back : (below : Bool) (n : ℕ) → n < bound
 unfolding owedAs allDigits worth
 size-back below n h =
     let b : n < 10 ^ (19 + 1) = omega arith in
-    rw (lt-ltb 0 (length (spell 19 n [])) (back.some-spell 19 n []), back.digits-spell 19 n [], back.worth-spell 19 n [] b, lt-ltb n bound h)
+    let some = lt-ltb 0 (length (spell 19 n [])) (back.some-spell 19 n []) in
+    rw (some, back.digits-spell 19 n [], back.worth-spell 19 n [] b, lt-ltb n bound h)
 
 pub owed-back : (x : ℤ) → natAbs x < bound → owedIn (signed x []) ≡ Owed.Value x
 unfolding owedIn signed minus allDigits

@@ -13,7 +13,8 @@ module _ {S : Type 0} (g : S → List ℕ → S) (word : List ℕ) (known : Know
   walked zero a = a
   walked (suc n) a = g (walked n a) (word ++ joined (row n) [])
 
-  pub over-rows : (n : ℕ) (a : S) (rest : List ℕ) → over g a (lines (linesTo (λ i. rowText word (row i)) n rest)) ≡ over g (walked n a) (lines rest)
+  pub over-rows : (n : ℕ) (a : S) (rest : List ℕ)
+      → over g a (lines (linesTo (λ i. rowText word (row i)) n rest)) ≡ over g (walked n a) (lines rest)
   unfolding linesTo over walked
   over-rows zero a rest = refl
   over-rows (suc n) a rest =

@@ -23,7 +23,8 @@ use Rattle.text.specs.declared.Fault.{Fault}
 use Rattle.text.specs.declared.Line.{Line}
 use Rattle.text.proofs.Back.{line-right}
 use Rattle.text.proofs.Money.{owed-right}
-use Rattle.stating.specs.Rows.{asks, rowsFor, rowsAhead, allRows, rowNumber, rowPlace, Marked, rowFault, statementFault, withMark, markRow, markLine, unmarked, markedIn, complete, lastFault}
+use Rattle.stating.specs.Rows.{asks, rowsFor, rowsAhead, allRows, rowNumber, rowPlace, Marked, rowFault, statementFault}
+use Rattle.stating.specs.Rows.{withMark, markRow, markLine, unmarked, markedIn, complete, lastFault}
 use Rattle.telling.specs.Text.{agentNumbers, statementText}
 use Rattle.told.proofs.Walks.{Writable, walk, over-statement, priceRead, agentRead, plantRead, contractRead}
 

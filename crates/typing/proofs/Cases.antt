@@ -7,7 +7,8 @@ use Rattle.sums.specs.Sums.{pick}
 use Rattle.sums.specs.Lists.{listTo}
 use Rattle.refusals.specs.Refusals.{firstBad, refusal}
 use Rattle.rows.specs.Bytes.{u32At, wordsAt, word, byteOf, bytesOf}
-use Rattle.sheet.specs.Reading.{countsOf, distancesGood, layoutGood, kindAt, agentVerdict, boundaryVerdict, plantVerdict, contractVerdict, readVerdict, readOf}
+use Rattle.sheet.specs.Reading.{countsOf, distancesGood, layoutGood, kindAt, agentVerdict, boundaryVerdict, plantVerdict}
+use Rattle.sheet.specs.Reading.{contractVerdict, readVerdict, readOf}
 use Rattle.sheet.specs.Asking.{rowsIn, rowsBefore}
 use Rattle.sheet.specs.declared.Counts.{Counts}
 use Rattle.printing.specs.Text.{spell, linesTo}
@@ -164,8 +165,8 @@ pub made-cases : (map (λ (t : List ℕ). made t 112) (whole ∷ unknown ∷ sta
     × (made (times 64 one) 1056 ≡ Made.Done 1056)
     × (made (times 65 one) 1056 ≡ Made.Wrong 65 Fault.Rows)
 unfolding faultNumber earlier allDigits worth parsedAs parsed owedAs owedIn cut over same wordOf named numbered owing step readLine
-    lineFault wants sheetFault countedIn scanRow scanLine scanned gatherLine listed pick firstBad rowsIn agentListed boundaryListed plantListed contractListed rowListed
-    sectionListed writeVerdict lineFrom lineOfRow refusedLine made
+    lineFault wants sheetFault countedIn scanRow scanLine scanned gatherLine listed pick firstBad rowsIn agentListed
+    boundaryListed plantListed contractListed rowListed sectionListed writeVerdict lineFrom lineOfRow refusedLine made
 made-cases = (refl, refl, refl, refl, refl)
 
 -- the sheet of the first text, as text

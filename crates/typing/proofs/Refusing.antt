@@ -8,7 +8,8 @@ use native.Mathlib.Omega.{arith}
 use borrow.Author.Tests.{le-leb}
 use lib.Dec.{leb}
 use lib.ListN.{length}
-use Rattle.refusals.specs.Refusals.{badLayout, badAgent, badBoundary, badPlant, badContract, noRoom, refusal, refusedUnless, orElse, firstOf, firstBad}
+use Rattle.refusals.specs.Refusals.{badLayout, badAgent, badBoundary, badPlant, badContract, noRoom, refusal, refusedUnless}
+use Rattle.refusals.specs.Refusals.{orElse, firstOf, firstBad}
 use Rattle.refusals.specs.declared.Refusal.{Refusal}
 use Rattle.refusals.specs.declared.Verdict.{Verdict}
 use Rattle.refusals.proofs.Fine.{not-fine}
@@ -18,7 +19,8 @@ use Rattle.sheet.specs.Reading.{sheetLength}
 use Rattle.sheet.specs.Asking.{rowsIn}
 use Rattle.text.specs.Faults.{found}
 use Rattle.writing.specs.Numbers.{Numbers, countsIn, agentIn, boundaryIn, plantIn, contractIn}
-use Rattle.writing.specs.Judged.{listsGood, agentListed, boundaryListed, plantListed, contractListed, rowListed, sectionListed, writeChecks, writeVerdict, writing}
+use Rattle.writing.specs.Judged.{listsGood, agentListed, boundaryListed, plantListed, contractListed, rowListed, sectionListed}
+use Rattle.writing.specs.Judged.{writeChecks, writeVerdict, writing}
 use Rattle.writing.specs.declared.Writing.{Writing}
 use Rattle.typing.specs.Rows.{sheetRooms, wants, scanned, listed, numbersIn}
 use Rattle.typing.specs.Made.{lineOfRow, refusedLine, madeBy, writingIn, made, MadeInto}
@@ -101,7 +103,8 @@ module _ (n : Numbers) (r : Refusal) (low : badAgent ≤ r .number) (high : r .n
   refused-there : (room : ℕ) → writeVerdict n room ≡ Verdict.Refused r → There
   unfolding writeVerdict
   refused-there room e =
-      whoever (writeChecks n room) r (not-layout, (agents-there, (boundaries-there, (plants-there, (contracts-there, (not-room room, tt)))))) e
+      whoever (writeChecks n room) r
+      (not-layout, (agents-there, (boundaries-there, (plants-there, (contracts-there, (not-room room, tt)))))) e
 
 -- ---- of a text in which no line is wrong: row i of section k begins before the end of the section's list
 module _ (text : List ℕ) (f : found (scanned sheetRooms text .fault) ≡ false) (i : ℕ) where

@@ -21,13 +21,15 @@ use Rattle.sheet.proofs.Accepted.{Few}
 use Rattle.text.specs.Faults.{faultNumber, found, earlier}
 use Rattle.text.specs.Lines.{cut, lines, over, step, readLine, lineFault}
 use Rattle.writing.specs.Numbers.{numbers, numbersOf, boundaryNumber, plantNumber, contractNumber}
-use Rattle.typing.specs.Rows.{sheetFault, countedIn, withinRooms, scanRow, scanLine, unscanned, scanned, gatherLine, listed, numbersIn, sheetRooms}
+use Rattle.typing.specs.Rows.{sheetFault, countedIn, withinRooms, scanRow, scanLine, unscanned, scanned, gatherLine}
+use Rattle.typing.specs.Rows.{listed, numbersIn, sheetRooms}
 use Rattle.typing.specs.Text.{rowTyped, boundaryTyped, plantTyped, contractTyped, rowOfSheet, sectionText, sheetText}
 use Rattle.typing.specs.declared.Scan.{Scan}
 use Rattle.typing.proofs.Gathering.{gather-skip}
 use Rattle.typing.proofs.Putting.{few-rows}
 use Rattle.typing.proofs.Rows.{rowsTo, rows-listed}
-use Rattle.typing.proofs.Back.{agent-section, boundary-section, plant-section, contract-section, added, Going, own, other, scan-section}
+use Rattle.typing.proofs.Back.{agent-section, boundary-section, plant-section, contract-section, added, Going, own}
+use Rattle.typing.proofs.Back.{other, scan-section}
 
 -- no section is over its room
 within-of : (c m : Counts) → c .agents ≤ m .agents → c .boundaries ≤ m .boundaries → c .plants ≤ m .plants → c .contracts ≤ m .contracts

@@ -22,7 +22,8 @@ fn put_numbers(out: &mut [u32], k: usize, l: Line, n: usize)
 // A line's numbers, if it is of the section, behind the k that are there.
 fn gather_line(s: &[u8], out: &mut [u32], k: usize, section: u32) -> usize
     requires { ⌜ (k ≤ length (now out)) × (length (gatherLine section (take k (now out)) (now s)) ≤ length (now out)) ⌝ }
-    ensures { λ r. ⌜ (take r (now (out .exit)) ≡ gatherLine section (take k (now (out .entry))) (now (s .entry))) × (drop r (now (out .exit)) ≡ drop r (now (out .entry))) × (k ≤ r) × (r ≤ length (now (out .exit))) ⌝ }
+    ensures { λ r. ⌜ (take r (now (out .exit)) ≡ gatherLine section (take k (now (out .entry))) (now (s .entry)))
+        × (drop r (now (out .exit)) ≡ drop r (now (out .entry))) × (k ≤ r) × (r ≤ length (now (out .exit))) ⌝ }
 {
     let l = text::read_line(s);
     if l.word == section {
@@ -37,7 +38,8 @@ fn gather_line(s: &[u8], out: &mut [u32], k: usize, section: u32) -> usize
 // The numbers of a section at the front of a list.
 pub(crate) fn gather(s: &[u8], out: &mut [u32], section: u32)
     requires { ⌜ length (listed section (now s)) ≤ length (now out) ⌝ }
-    ensures { λ _. ⌜ Filled 0 (now (out .entry)) (now (out .exit)) (length (listed section (now (s .entry)))) (at (listed section (now (s .entry)))) ⌝ }
+    ensures { λ _. ⌜ Filled 0 (now (out .entry)) (now (out .exit)) (length (listed section (now (s .entry))))
+        (at (listed section (now (s .entry)))) ⌝ }
 {
     let mut k: usize = 0;
     let mut i: usize = 0;

@@ -41,7 +41,9 @@ pub fn read(
     plants: &mut [u32],
     contracts: &mut [u32],
 ) -> Scan
-    ensures { λ r. ⌜ ReadInto (now (text .entry)) (numbers (now (agents .entry)) (now (boundaries .entry)) (now (plants .entry)) (now (contracts .entry))) r (numbers (now (agents .exit)) (now (boundaries .exit)) (now (plants .exit)) (now (contracts .exit))) ⌝ }
+    ensures { λ r. ⌜ ReadInto (now (text .entry))
+        (numbers (now (agents .entry)) (now (boundaries .entry)) (now (plants .entry)) (now (contracts .entry))) r
+        (numbers (now (agents .exit)) (now (boundaries .exit)) (now (plants .exit)) (now (contracts .exit))) ⌝ }
 {
     let rooms = Counts {
         agents: agents.len(),

@@ -37,7 +37,8 @@ pub(crate) fn one_if(t: bool) -> usize
 }
 
 fn counted(c: Counts, k: u32) -> Counts
-    requires { ⌜ (c .agents < 18446744073709551615) × (c .boundaries < 18446744073709551615) × (c .plants < 18446744073709551615) × (c .contracts < 18446744073709551615) ⌝ }
+    requires { ⌜ (c .agents < 18446744073709551615) × (c .boundaries < 18446744073709551615)
+        × (c .plants < 18446744073709551615) × (c .contracts < 18446744073709551615) ⌝ }
     ensures { λ r. ⌜ r ≡ countedIn c k ⌝ }
 {
     let a = one_if(k == 1);

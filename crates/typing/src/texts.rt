@@ -100,7 +100,8 @@ fn put_text(s: &mut [u8], bytes: &[u8], c: Counts) -> usize
 
 fn give_text(bytes: &[u8], c: Counts, out: &mut [u8]) -> Printed
     requires { ⌜ readOf (now bytes) ≡ Reading.Accepted c ⌝ }
-    ensures { λ r. ⌜ Prints (fitVerdict (sheetText (now (bytes .entry)) c) (length (now (out .entry)))) (sheetText (now (bytes .entry)) c) (now (out .entry)) r (now (out .exit)) ⌝ }
+    ensures { λ r. ⌜ Prints (fitVerdict (sheetText (now (bytes .entry)) c) (length (now (out .entry))))
+        (sheetText (now (bytes .entry)) c) (now (out .entry)) r (now (out .exit)) ⌝ }
 {
     let mut s = [0u8; 114 * (Agent::MOST + Boundary::MOST + Plant::MOST + Contract::MOST)];
     let from = put_text(&mut s, bytes, c);
@@ -109,7 +110,8 @@ fn give_text(bytes: &[u8], c: Counts, out: &mut [u8]) -> Printed
 
 // The text of a sheet, put into a lent buffer.
 pub fn write(bytes: &[u8], out: &mut [u8]) -> Printed
-    ensures { λ r. ⌜ Prints (textVerdict (readOf (now (bytes .entry))) (now (bytes .entry)) (length (now (out .entry)))) (textOf (readOf (now (bytes .entry))) (now (bytes .entry))) (now (out .entry)) r (now (out .exit)) ⌝ }
+    ensures { λ r. ⌜ Prints (textVerdict (readOf (now (bytes .entry))) (now (bytes .entry)) (length (now (out .entry))))
+        (textOf (readOf (now (bytes .entry))) (now (bytes .entry))) (now (out .entry)) r (now (out .exit)) ⌝ }
 {
     match sheet::read(bytes) {
         Reading::Accepted(c) => give_text(bytes, c, out),

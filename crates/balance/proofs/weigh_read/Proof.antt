@@ -26,7 +26,8 @@ use Rattle.hour.proofs.Bounds.{leaving-le, entering-le, exported-le, injected-l
 use Rattle.hour.proofs.Demand.{small-within}
 use Rattle.hour.proofs.Fits.{commercial-most, demand-most}
 use Rattle.balance.specs.Balances.{unscheduled}
-use Rattle.balance.proofs.ByAgent.{consumed-is, entering-is, leaving-is, verdict-is, commercial-is, fits-by, shares-are, weights-are, demand-is, injected-is, small-is, target-is}
+use Rattle.balance.proofs.ByAgent.{consumed-is, entering-is, leaving-is, verdict-is, commercial-is, fits-by, shares-are}
+use Rattle.balance.proofs.ByAgent.{weights-are, demand-is, injected-is, small-is, target-is}
 use Rattle.balance.proofs.weigh_read.Statement.{statement}
 use Rattle.balance.proofs.weigh_read.Tie as tie
 

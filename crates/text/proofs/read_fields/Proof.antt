@@ -48,5 +48,5 @@ returns c =
 pub read-fields-spec : {M : Type 1} → statement M
 read-fields-spec =
     tie.close
-    (tie.spec Inv-loop μ-loop (λ c κs. search needs) loop-holds (λ c κs. search needs) (λ c. omega arith) (λ c. search needs) (λ c. search needs)
-    (λ c κs. omega arith) (λ c. omega arith) (λ c. omega arith) loop-again returns)
+    (tie.spec Inv-loop μ-loop (λ c κs. search needs) loop-holds (λ c κs. search needs) (λ c. omega arith) (λ c. search needs)
+    (λ c. search needs) (λ c κs. omega arith) (λ c. omega arith) (λ c. omega arith) loop-again returns)

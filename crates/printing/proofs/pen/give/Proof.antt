@@ -20,7 +20,12 @@ returns c =
     let z : length (drop (a .from) s) ≡ 0 = length-drop (a .from) s ∙ omega arith in
     let f : length (drop (a .from) s) ≤ length o = omega arith in
     rw (le-leb (length (drop (a .from) s)) (length o) f)
-    (record { answer = ap Printed.Done (sym z); bytes = filled-count 0 o o 0 (length (drop (a .from) s)) (at (drop (a .from) s)) (sym z) (filled-none 0 o (at (drop (a .from) s))) })
+    (record {
+      answer = ap Printed.Done (sym z);
+      bytes =
+          filled-count 0 o o 0 (length (drop (a .from) s)) (at (drop (a .from) s)) (sym z)
+          (filled-none 0 o (at (drop (a .from) s)));
+    })
 
 returns-2 : tie.Need-returns-2
 returns-2 c =

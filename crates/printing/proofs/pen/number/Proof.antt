@@ -39,9 +39,12 @@ returns-2 c =
     let e = d .before .before .before in
     let u = d .put-decimal .ensures in
     let w = b .put-byte .ensures in
+    let a = e .before .before .args in
     record {
       put = λ p q. record {
-        text-is = w .text-is ∙ ap (λ (l : List ℕ). 32 ∷ l) (u .text-is ∙ ap (λ (n : ℕ). spell 19 n (drop (e .before .before .args .at) (now (e .before .before .args .s)))) (d .before .wide .ensures));
+        text-is =
+            w .text-is ∙ ap (λ (l : List ℕ). 32 ∷ l) (u .text-is
+            ∙ ap (λ (n : ℕ). spell 19 n (drop (a .at) (now (a .s)))) (d .before .wide .ensures));
         low = omega (arith, u .low, w .low);
         high = omega (arith, u .high, w .high);
       };

@@ -32,8 +32,10 @@ loop-again c =
 
 returns : tie.Need-returns Inv-loop μ-loop
 returns c =
-    let b = (c .before) .loop in
-    (laws.digits-end _ (b .i) (b .good) _ (omega arith) (b .inv .2), laws.worth-end _ (b .i) (b .value) _ (omega arith) (b .inv .1) (b .inv .3))
+    let b = (c .before) .loop in (
+      laws.digits-end _ (b .i) (b .good) _ (omega arith) (b .inv .2),
+      laws.worth-end _ (b .i) (b .value) _ (omega arith) (b .inv .1) (b .inv .3),
+    )
 
 pub digits-spec : {M : Type 1} → statement M
 digits-spec =
