@@ -9,7 +9,7 @@ ghost use mathlib.Core.Path.{_≡_};
 ghost use mathlib.Core.Bool.{_&&_, _||_, not};
 ghost use Prim.Native.Nat.{ℕ, _+_, _-_, _≤_, _<_};
 ghost use lib.Dec.{ltb, eqb};
-ghost use lib.ListN.{length, take};
+ghost use lib.ListN.{length, take, set};
 ghost use Rattle.sums.specs.Sums.{sum, pick, first};
 ghost use Rattle.sums.specs.Lists.{at, Filled};
 ghost use Rattle.refusals.specs.Refusals.{cells};
@@ -86,6 +86,14 @@ fn kinds_of(s: &[u8], c: Counts, out: &mut [u32])
     }
 }
 
+// One reading more in the cell of its agent.
+fn add_reading(out: &mut [u64], a: usize, reading: u32, factor: u32)
+    requires { ⌜ (a < length (now out)) × (at (now out) a ≤ mostExact) × (reading ≤ mostReading) × (factor ≤ mostFactor) ⌝ }
+    ensures { λ _. ⌜ now (out .exit) ≡ set (now (out .entry)) a (at (now (out .entry)) a + referred reading factor) ⌝ }
+{
+    out[a] = out[a] + refer(reading, factor);
+}
+
 // What each agent took and delivered, in ten-thousandths: one pass over the boundary rows.
 fn meter(s: &[u8], c: Counts, imports: &mut [u64], exports: &mut [u64])
     requires { ⌜ readOf (now s) ≡ Reading.Accepted c ⌝ }
@@ -98,8 +106,8 @@ fn meter(s: &[u8], c: Counts, imports: &mut [u64], exports: &mut [u64])
     while j < n {
         let b = rows::boundary_of(rows::row_at(section, j));
         let a = b.agent as usize;
-        imports[a] = imports[a] + refer(b.import, b.factor);
-        exports[a] = exports[a] + refer(b.export, b.factor);
+        add_reading(imports, a, b.import, b.factor);
+        add_reading(exports, a, b.export, b.factor);
         j += 1;
     }
 }

@@ -1,9 +1,9 @@
 use borrow.Author.Needs.{needs}
 use native.Mathlib.Omega.{arith}
-use Prim.Native.Nat.{ℕ, _≤_, _<_, _-_}
+use Prim.Native.Nat.{ℕ, _+_, _*_, _≤_, _<_, _-_}
 use mathlib.Core.List.{List}
 use mathlib.Core.Path.{_≡_, _∙_, ap, sym}
-use lib.ListN.{length, length-set}
+use lib.ListN.{length, set, length-set}
 use Rattle.rows.specs.Limits.{mostAgents}
 use Rattle.rows.specs.declared.Boundary.{Boundary}
 use Rattle.sums.specs.Sums.{keyed}
@@ -12,8 +12,9 @@ use Rattle.sums.proofs.Lists.{zeros-at}
 use Rattle.sums.proofs.Keyed.{keyed-none, keyed-put}
 use Rattle.sheet.proofs.Accepted.{accepted-few}
 use Rattle.hour.specs.Balance.{referred}
-use Rattle.hour.proofs.Bounds.{referred-le}
+use Rattle.hour.proofs.Bounds.{mostReferred}
 use Rattle.balance.specs.Balances.{zeros}
+use Rattle.balance.specs.Parts.{mostExact}
 use Rattle.balance.proofs.Rows.{row, owner, taken, given, RowSound, row-sound, taken-most, given-most, imported-is, exported-is}
 use Rattle.balance.proofs.meter.Statement.{statement}
 use Rattle.balance.proofs.meter.Tie as tie
@@ -40,41 +41,8 @@ boundary-of-to-loop c = c .before .before .before
 abbrev boundary-of-to-section-of : tie.After-boundary-of Inv-loop μ-loop → tie.After-section-of Inv-loop μ-loop
 boundary-of-to-section-of c = c .before .before .before .before
 
-abbrev struct-known-to-loop : tie.After-struct-known Inv-loop μ-loop → tie.At-loop Inv-loop μ-loop
-struct-known-to-loop c = c .before .before .before .before
-
-abbrev slice-known3-to-loop : tie.After-slice-known3 Inv-loop μ-loop → tie.At-loop Inv-loop μ-loop
-slice-known3-to-loop c = c .before .before .before .before .before
-
-abbrev refer-to-boundary-of : tie.After-refer Inv-loop μ-loop → tie.After-boundary-of Inv-loop μ-loop
-refer-to-boundary-of c = c .before .before .before
-
-abbrev refer-to-loop : tie.After-refer Inv-loop μ-loop → tie.At-loop Inv-loop μ-loop
-refer-to-loop c = slice-known3-to-loop (c .before)
-
-abbrev refer-to-section-of : tie.After-refer Inv-loop μ-loop → tie.After-section-of Inv-loop μ-loop
-refer-to-section-of c = refer-to-loop c .before
-
-abbrev refer-to-start : tie.After-refer Inv-loop μ-loop → tie.Start Inv-loop μ-loop
-refer-to-start c = refer-to-section-of c .before .before .before .before
-
-abbrev slice-known4-to-boundary-of : tie.After-slice-known4 Inv-loop μ-loop → tie.After-boundary-of Inv-loop μ-loop
-slice-known4-to-boundary-of c = c .before .before .before .before
-
-abbrev slice-known4-to-loop : tie.After-slice-known4 Inv-loop μ-loop → tie.At-loop Inv-loop μ-loop
-slice-known4-to-loop c = refer-to-loop (c .before)
-
-abbrev refer2-to-boundary-of : tie.After-refer2 Inv-loop μ-loop → tie.After-boundary-of Inv-loop μ-loop
-refer2-to-boundary-of c = c .before .before .before .before .before
-
-abbrev refer2-to-loop : tie.After-refer2 Inv-loop μ-loop → tie.At-loop Inv-loop μ-loop
-refer2-to-loop c = slice-known4-to-loop (c .before)
-
-abbrev refer2-to-section-of : tie.After-refer2 Inv-loop μ-loop → tie.After-section-of Inv-loop μ-loop
-refer2-to-section-of c = refer2-to-loop c .before
-
-abbrev refer2-to-start : tie.After-refer2 Inv-loop μ-loop → tie.Start Inv-loop μ-loop
-refer2-to-start c = refer-to-start (c .before .before)
+abbrev add-reading2-to-boundary-of : tie.After-add-reading2 Inv-loop μ-loop → tie.After-boundary-of Inv-loop μ-loop
+add-reading2-to-boundary-of c = c .before .before .before .before .before .before .before
 
 -- the row that was read
 is : (c : tie.After-boundary-of Inv-loop μ-loop)
@@ -103,112 +71,72 @@ loop-holds c = (
     none : (l : List ℕ) → l ≡ zeros → (a : ℕ) → at l a ≡ 0
     none l e a = rw e (zeros-at mostAgents a)
 
-mul-imports : tie.Need-mul-imports Inv-loop μ-loop
-mul-imports c = omega (arith, good (c .before) .there, struct-known-to-loop c .loop .inv .1)
+-- what a reading more asks of the cell of its agent: it is there, and the rows before came to no more than all rows can
+cell : (c : tie.After-boundary-of Inv-loop μ-loop) (l : List ℕ) (x : ℕ)
+    → length l ≡ mostAgents
+    → at l (c .boundary-of .result .agent) ≡ x
+    → x ≤ mostReferred * boundary-of-to-loop c .loop .j
+    → (c .boundary-of .result .agent < length l) × (at l (c .boundary-of .result .agent) ≤ mostExact)
+cell c l x n e h =
+    let few = accepted-few _ _ (section-of-to-start (boundary-of-to-section-of c) .pre .0) .boundaries in
+    (omega (arith, good c .there), omega (arith, few))
 
-slice-read-imports : tie.Need-slice-read-imports Inv-loop μ-loop
-slice-read-imports c =
-    omega (arith, good (c .before .before) .there, slice-known3-to-loop c .loop .inv .1)
+add-reading-requires : tie.Need-add-reading-requires Inv-loop μ-loop
+add-reading-requires c κs =
+    let b = c .before .before in
+    let l = boundary-of-to-loop b .loop in
+    let at-section-of = boundary-of-to-section-of b in
+    let g = good b in
+    let most = taken-most _ _ (section-of-to-start at-section-of .pre .0) _ (at-section-of .section-of .ensures) (l .j)
+    (b .boundary-of .result .agent) (omega arith) in
+    let room = cell b (l .imports) _ (l .inv .1) (l .inv .3 (b .boundary-of .result .agent) (g .there)) most in
+    (room .0, room .1, g .import, g .factor)
 
-refer-requires : tie.Need-refer-requires Inv-loop μ-loop
-refer-requires c κs = (good (c .before .before) .import, good (c .before .before) .factor)
+add-reading-requires-2 : tie.Need-add-reading-requires-2 Inv-loop μ-loop
+add-reading-requires-2 c κs =
+    let b = c .before .before .before .before .before .before in
+    let l = boundary-of-to-loop b .loop in
+    let at-section-of = boundary-of-to-section-of b in
+    let g = good b in
+    let most = given-most _ _ (section-of-to-start at-section-of .pre .0) _ (at-section-of .section-of .ensures) (l .j)
+    (b .boundary-of .result .agent) (omega arith) in
+    let room = cell b (l .exports) _ (l .inv .2) (l .inv .4 (b .boundary-of .result .agent) (g .there)) most in
+    (room .0, room .1, g .export, g .factor)
 
-add-imports : tie.Need-add-imports Inv-loop μ-loop
-add-imports c =
-    let g = good (refer-to-boundary-of c) in
-    let b = refer-to-boundary-of c .boundary-of .result in
+add-j : tie.Need-add-j Inv-loop μ-loop
+add-j c =
+    let at-row = add-reading2-to-boundary-of (c .before .before) in
     omega (
       arith,
-      c .refer .ensures,
-      referred-le (b .import) (b .factor) (g .import) (g .factor),
-      refer-to-loop c .loop .inv .3 (b .agent) (g .there),
-      taken-most _ _ (refer-to-start c .pre .0) _ (refer-to-section-of c .section-of .ensures)
-          (refer-to-loop c .loop .j) (b .agent) (omega arith),
-      accepted-few _ _ (refer-to-start c .pre .0) .boundaries,
+      at-row .before .before .loop-test .taken,
+      accepted-few _ _ (section-of-to-start (boundary-of-to-section-of at-row) .pre .0) .boundaries,
     )
 
-mul-imports-2 : tie.Need-mul-imports-2 Inv-loop μ-loop
-mul-imports-2 c =
-    omega (
-      arith,
-      good (refer-to-boundary-of c) .there,
-      refer-to-loop c .loop .inv .1,
-    )
-
-slice-write-imports : tie.Need-slice-write-imports Inv-loop μ-loop
-slice-write-imports c =
-    omega (
-      arith,
-      good (refer-to-boundary-of c) .there,
-      refer-to-loop c .loop .inv .1,
-    )
-
-mul-exports : tie.Need-mul-exports Inv-loop μ-loop
-mul-exports c =
-    omega (
-      arith,
-      good (refer-to-boundary-of c) .there,
-      refer-to-loop c .loop .inv .2,
-    )
-
-slice-read-exports : tie.Need-slice-read-exports Inv-loop μ-loop
-slice-read-exports c =
-    omega (
-      arith,
-      good (slice-known4-to-boundary-of c) .there,
-      slice-known4-to-loop c .loop .inv .2,
-    )
-
-refer-requires-2 : tie.Need-refer-requires-2 Inv-loop μ-loop
-refer-requires-2 c κs =
-    (good (slice-known4-to-boundary-of c) .export, good (slice-known4-to-boundary-of c) .factor)
-
-add-exports : tie.Need-add-exports Inv-loop μ-loop
-add-exports c =
-    let g = good (refer2-to-boundary-of c) in
-    let b = refer2-to-boundary-of c .boundary-of .result in
-    omega (
-      arith,
-      c .refer2 .ensures,
-      referred-le (b .export) (b .factor) (g .export) (g .factor),
-      refer2-to-loop c .loop .inv .4 (b .agent) (g .there),
-      given-most _ _ (refer2-to-start c .pre .0) _ (refer2-to-section-of c .section-of .ensures)
-          (refer2-to-loop c .loop .j) (b .agent) (omega arith),
-      accepted-few _ _ (refer2-to-start c .pre .0) .boundaries,
-    )
-
-mul-exports-2 : tie.Need-mul-exports-2 Inv-loop μ-loop
-mul-exports-2 c =
-    omega (
-      arith,
-      good (refer2-to-boundary-of c) .there,
-      refer2-to-loop c .loop .inv .2,
-    )
-
-slice-write-exports : tie.Need-slice-write-exports Inv-loop μ-loop
-slice-write-exports c =
-    omega (
-      arith,
-      good (refer2-to-boundary-of c) .there,
-      refer2-to-loop c .loop .inv .2,
-    )
+-- a reading more in its cell is a row more in the sums
+added : (key v : ℕ → ℕ) (m : ℕ) (l l′ : List ℕ) (k w : ℕ) → k ≡ key m → w ≡ v m → k < mostAgents
+    → l′ ≡ set l k (at l k + w)
+    → length l ≡ mostAgents
+    → ((a : ℕ) → a < mostAgents → at l a ≡ keyed key v m a)
+    → (length l′ ≡ mostAgents) × ((a : ℕ) → a < mostAgents → at l′ a ≡ keyed key v (m + 1) a)
+added key v m l l′ k w p q h e n sums =
+    rw e (simp length-set n, keyed-put key v m mostAgents l k w p q h n sums)
 
 loop-again : tie.Need-loop-again Inv-loop μ-loop
 loop-again c =
-    let l = refer2-to-loop c .loop in
-    let b = is (refer2-to-boundary-of c) in
+    let at-second = c .before .before in
+    let at-first = at-second .before .before .before .before in
+    let at-row = add-reading2-to-boundary-of at-second in
+    let l = boundary-of-to-loop at-row .loop in
+    let b = is at-row in
     let k = ap (λ (x : Boundary). x .agent) b in
-    let g = good (refer2-to-boundary-of c) in (
-      omega arith,
-      simp length-set (l .inv .1),
-      simp length-set (l .inv .2),
-      keyed-put _ _ (l .j) mostAgents (l .imports) _ _ k
-          ((c .before .before) .refer .ensures ∙ ap (λ (x : Boundary). referred (x .import) (x .factor)) b) (g .there)
-          (l .inv .1) (l .inv .3),
-      keyed-put _ _ (l .j) mostAgents (l .exports) _ _ k
-          (c .refer2 .ensures ∙ ap (λ (x : Boundary). referred (x .export) (x .factor)) b) (g .there) (l .inv .2)
-          (l .inv .4),
-    )
+    let there = good at-row .there in
+    let taken-is = ap (λ (x : Boundary). referred (x .import) (x .factor)) b in
+    let given-is = ap (λ (x : Boundary). referred (x .export) (x .factor)) b in
+    let taken-more = added (owner _) (taken _) (l .j) (l .imports) _ _ _ k taken-is there
+    (at-first .add-reading .ensures) (l .inv .1) (l .inv .3) in
+    let given-more = added (owner _) (given _) (l .j) (l .exports) _ _ _ k given-is there
+    (at-second .add-reading2 .ensures) (l .inv .2) (l .inv .4) in
+    (omega arith, taken-more .0, given-more .0, taken-more .1, given-more .1)
 
 same-length : tie.Need-same-length Inv-loop μ-loop
 same-length c =
@@ -238,6 +166,5 @@ pub meter-spec : {M : Type 1} → statement M
 meter-spec =
     tie.close
     (tie.spec Inv-loop μ-loop (λ c κs. search needs) loop-holds (λ c κs. search needs) (λ c κs. search needs)
-    (λ c. search needs) mul-imports slice-read-imports refer-requires add-imports mul-imports-2
-    slice-write-imports mul-exports slice-read-exports refer-requires-2 add-exports mul-exports-2
-    slice-write-exports (λ c. search needs) (λ c. search needs) loop-again same-length same-length-2 returns)
+    (λ c. search needs) add-reading-requires add-reading-requires-2 add-j (λ c. search needs) loop-again
+    same-length same-length-2 returns)
