@@ -6,7 +6,7 @@ ghost use lib.Dec.{eqb};
 ghost use Rattle.sums.specs.Lists.{listTo};
 ghost use Rattle.sheet.specs.Reading.{countsGood};
 ghost use Rattle.text.specs.declared.Fault.{Fault};
-ghost use Rattle.stating.specs.Rows.{Marked, asks, rowsFor, rowsAhead, allRows, rowNumber, rowFault, statementFault};
+ghost use Rattle.stating.specs.Rows.{Marked, byWord, asks, rowsFor, rowsAhead, allRows, rowNumber, rowFault, statementFault};
 ghost use Rattle.stating.specs.Rows.{withMark, markRow, markLine, markedIn, complete, lastFault};
 ghost use Rattle.stating.specs.Steps.{seen, MarksFit};
 use super::Seen;
@@ -17,42 +17,36 @@ use sheet::Counts;
 use text::Fault;
 use text::Line;
 
+fn by_word(k: u32, agent: usize, plant: usize, contract: usize, price: usize) -> usize
+    ensures { λ r. ⌜ r ≡ byWord k agent plant contract price 0 ⌝ }
+{
+    match k {
+        1 => agent,
+        3 => plant,
+        4 => contract,
+        5 => price,
+        _ => 0,
+    }
+}
+
 // How many numbers are behind the word k.
 fn asked(k: u32) -> usize
     ensures { λ r. ⌜ r ≡ asks k ⌝ }
 {
-    match k {
-        1 => 8,
-        3 => 2,
-        4 => 2,
-        5 => 1,
-        _ => 0,
-    }
+    by_word(k, 8, 2, 2, 1)
 }
 
 fn rows_for(c: Counts, k: u32) -> usize
     ensures { λ r. ⌜ r ≡ rowsFor c k ⌝ }
 {
-    match k {
-        1 => c.agents,
-        3 => c.plants,
-        4 => c.contracts,
-        5 => 1,
-        _ => 0,
-    }
+    by_word(k, c.agents, c.plants, c.contracts, 1)
 }
 
 fn rows_ahead(c: Counts, k: u32) -> usize
     requires { ⌜ allRows c ≤ 385 ⌝ }
     ensures { λ r. ⌜ (r ≡ rowsAhead c k) × (r ≤ 385) ⌝ }
 {
-    match k {
-        1 => 1,
-        3 => 1 + c.agents,
-        4 => 1 + c.agents + c.plants,
-        5 => 0,
-        _ => 0,
-    }
+    by_word(k, 1, 1 + c.agents, 1 + c.agents + c.plants, 0)
 }
 
 fn row_number(l: Line) -> usize

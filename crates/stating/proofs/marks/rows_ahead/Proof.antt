@@ -1,34 +1,33 @@
+-- What stands before a word's rows is at most all rows.
 use native.Mathlib.Omega.{arith}
 use borrow.Author.Needs.{needs}
-use borrow.Author.Tests.{ne-eqb}
-use Rattle.stating.specs.Rows.{rowsAhead}
+use Prim.Native.Nat.{ℕ, _+_, _≤_}
+use mathlib.Core.Bool.{Bool, true, false, cond}
+use lib.Dec.{eqb}
+use Rattle.sheet.specs.declared.Counts.{Counts}
+use Rattle.stating.specs.Rows.{allRows, rowsAhead}
 use Rattle.stating.proofs.marks.rows_ahead.Statement.{statement}
 use Rattle.stating.proofs.marks.rows_ahead.Tie as tie
 
+either : (t : Bool) (x y : ℕ) → x ≤ 385 → y ≤ 385 → cond t x y ≤ 385
+either true x y h k = h
+either false x y h k = k
+
+most : (c : Counts) (k : ℕ) → allRows c ≤ 385 → rowsAhead c k ≤ 385
+unfolding rowsAhead
+most c k h =
+    either (eqb k 1) 1 _ (omega arith)
+    (either (eqb k 3) (1 + c .agents) _ (omega arith)
+    (either (eqb k 4) (1 + c .agents + c .plants) _ (omega arith) (either (eqb k 5) 0 0 (omega arith) (omega arith))))
+
 returns : tie.Need-returns
 unfolding rowsAhead
-returns c = rw (c .match .keys1) (omega arith)
-
-returns-2 : tie.Need-returns-2
-unfolding rowsAhead
-returns-2 c = rw (c .before .match .keys2) (omega arith)
-
-returns-3 : tie.Need-returns-3
-unfolding rowsAhead
-returns-3 c = rw (c .before .before .match .keys3) (omega arith)
-
-returns-4 : tie.Need-returns-4
-unfolding rowsAhead
-returns-4 c = rw (c .match .keys4) (omega arith)
-
-returns-5 : tie.Need-returns-5
-unfolding rowsAhead
-returns-5 c =
-    let r = c .match .rest in
-    let k = c .before .args .k in
-    rw (ne-eqb k 1 (r .0 .0 .0 .1), ne-eqb k 3 (r .0 .0 .1), ne-eqb k 4 (r .0 .1), ne-eqb k 5 (r .1)) (omega arith)
+returns c =
+    let at-start = c .before .before .before .before in
+    let e = c .by-word .ensures in
+    (e, rw e (most (at-start .args .c) (at-start .args .k) (at-start .pre)))
 
 pub rows-ahead-spec : {M : Type 1} → statement M
 rows-ahead-spec =
     tie.close
-    (tie.spec (λ c. search needs) (λ c. search needs) (λ c. search needs) returns returns-2 returns-3 returns-4 returns-5)
+    (tie.spec (λ c. search needs) (λ c. search needs) (λ c. search needs) (λ c κs. search needs) returns)
