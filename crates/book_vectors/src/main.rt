@@ -5,66 +5,32 @@
 use book::Book;
 use book::Outcome;
 use book::Totals;
-use input::Input;
-use libc::STDERR_FILENO;
+use input::cases::Case;
+use input::cases::Next;
 use libc::STDOUT_FILENO;
 use refusals::Verdict;
-ghost use Prim.Native.Nat.{_+_, _*_, _≤_, _<_};
-ghost use lib.ListN.{length};
 ghost use Rattle.book.specs.Book.{Kept};
-ghost use Rattle.book_vectors.specs.Cases.{Next};
 
 // What stands behind the book's cells, so that a write can be seen.
 const UNUSED: u64 = 11936128518282651045;
 
-// Where the next book starts.
-enum Step {
-    At(usize),
-    Cut,
-}
-
-fn wide(x: u8) -> u32
-    ensures { λ r. ⌜ r < 256 ⌝ }
-{
-    x as u32
-}
-
-// The 32-bit number at a place.
-fn number(s: &[u8], at: usize) -> u32
-    requires { ⌜ at + 4 ≤ length (now s) ⌝ }
-{
-    wide(s[at]) + wide(s[at + 1]) * 256 + wide(s[at + 2]) * 65536 + wide(s[at + 3]) * 16777216
-}
-
-// The call that stands at a place, made on a book.
-fn called(s: &[u8], at: usize, held: Book) -> Outcome
-    requires { ⌜ (at + 24 ≤ length (now s)) × Kept held ⌝ }
+// A call, made on a book.
+fn called(call: &[u32; 6], held: Book) -> Outcome
+    requires { ⌜ Kept held ⌝ }
     ensures { λ r. ⌜ Kept (r .book) ⌝ }
 {
-    let hour = number(s, at + 4);
-    if number(s, at) == 2 {
-        return book::without_hour(held, hour);
+    if call[0] == 2 {
+        return book::without_hour(held, call[1]);
     }
-    let demand = number(s, at + 8);
-    let losses = number(s, at + 12);
-    let bought = number(s, at + 16);
-    let price = number(s, at + 20);
-    book::with_hour(held, hour, demand, losses, bought, price)
+    book::with_hour(held, call[1], call[2], call[3], call[4], call[5])
 }
 
 // The same call, on cells.
-fn cells_called(s: &[u8], at: usize, cells: &mut [u64; 126]) -> u32
-    requires { ⌜ at + 24 ≤ length (now s) ⌝ }
-{
-    let hour = number(s, at + 4);
-    if number(s, at) == 2 {
-        return capi::day_book::naomhral_book_remove(cells, hour);
+fn cells_called(call: &[u32; 6], cells: &mut [u64; 126]) -> u32 {
+    if call[0] == 2 {
+        return capi::day_book::naomhral_book_remove(cells, call[1]);
     }
-    let demand = number(s, at + 8);
-    let losses = number(s, at + 12);
-    let bought = number(s, at + 16);
-    let price = number(s, at + 20);
-    capi::day_book::naomhral_book_enter(cells, hour, demand, losses, bought, price)
+    capi::day_book::naomhral_book_enter(cells, call[1], call[2], call[3], call[4], call[5])
 }
 
 // The number that an answer is told by.
@@ -118,17 +84,19 @@ fn print_totals(t: Totals) {
     io::write_all(STDOUT_FILENO, b"\n");
 }
 
-// The n calls that stand from a place on, made in turn from an empty book.
-fn run_calls(s: &[u8], at: usize, n: usize)
-    requires { ⌜ at + 24 * n ≤ length (now s) ⌝ }
-{
+// The next n calls, made in turn from an empty book; false where the input ends within them.
+fn run_calls(n: u32) -> bool {
     let mut held = book::empty();
     let mut cells = [UNUSED; 126];
     capi::day_book::naomhral_book_empty(&mut cells);
+    let mut call = [0u32; 6];
     let mut i = 0;
     while i < n {
-        let out = called(s, at + 24 * i, held);
-        let number = cells_called(s, at + 24 * i, &mut cells);
+        if !input::cases::read_numbers(&mut call) {
+            return false;
+        }
+        let out = called(&call, held);
+        let number = cells_called(&call, &mut cells);
         let verdict = out.verdict;
         let next = out.book;
         let totals = next.totals;
@@ -138,62 +106,31 @@ fn run_calls(s: &[u8], at: usize, n: usize)
         held = next;
         i += 1;
     }
+    true
 }
 
-// One book, which starts at a place.
-fn run_book(s: &[u8], at: usize, case: u64) -> Step
-    requires { ⌜ at ≤ length (now s) ⌝ }
-    ensures { λ r. ⌜ Next r at (length (now (s .entry))) ⌝ }
-{
-    if s.len() - at < 4 {
-        return Step::Cut;
-    }
-    let n = number(s, at) as usize;
-    let rest = at + 4;
-    if (s.len() - rest) / 24 < n {
-        return Step::Cut;
-    }
+// The next book, and whether to go on.
+fn run_book(case: u64) -> bool {
+    let head = input::cases::next_number();
+    let Next::Number(n) = head else {
+        return false;
+    };
     io::write_all(STDOUT_FILENO, b"book ");
     io::print_decimal(STDOUT_FILENO, case);
     io::write_all(STDOUT_FILENO, b"\n");
-    run_calls(s, rest, n);
-    Step::At(rest + 24 * n)
-}
-
-fn say_cut() {
-    io::write_all(
-        STDERR_FILENO,
-        b"book_vectors: the input ends within a book\n",
-    );
-}
-
-fn run_all(s: &[u8]) {
-    let mut at = 0;
-    let mut case: u64 = 0;
-    while at < s.len() {
-        let Step::At(next) = run_book(s, at, case) else {
-            say_cut();
-            return;
-        };
-        at = next;
-        case += 1;
+    if !run_calls(n) {
+        input::cases::complain(Case::Cut);
+        return false;
     }
+    true
 }
 
 fn main() {
-    let mut buf = io::large_buffer();
-    let got = input::read_all(&mut buf);
-    match got {
-        Input::Failed => os::fail(b"book_vectors: the input cannot be read"),
-        Input::Bytes(n) => {
-            if n == buf.len() {
-                io::write_all(
-                    STDERR_FILENO,
-                    b"book_vectors: the input is longer than 65535 bytes\n",
-                );
-                return;
-            }
-            run_all(&buf[..n]);
+    let mut case: u64 = 0;
+    while case < 1000000 {
+        if !run_book(case) {
+            return;
         }
+        case += 1;
     }
 }

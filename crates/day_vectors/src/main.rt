@@ -37,20 +37,6 @@ fn next_size(most: usize) -> usize
     if most < n { most } else { n }
 }
 
-// The lengths of a day; false where the input ends.
-fn read_lengths(lengths: &mut [u32; HOURS]) -> bool {
-    let mut h = 0;
-    while h < HOURS {
-        let piece = input::cases::next_number();
-        let Next::Number(x) = piece else {
-            return false;
-        };
-        lengths[h] = x;
-        h += 1;
-    }
-    true
-}
-
 fn say(text: &[u8]) {
     io::write_all(STDOUT_FILENO, text);
 }
@@ -360,7 +346,7 @@ fn run_day(number: u64, lengths: &[u32; HOURS], sheets: &[u8]) {
 // The next day; false where the input ended.
 fn next_day(number: u64, buf: &mut [u8]) -> bool {
     let mut lengths = [0u32; HOURS];
-    if !read_lengths(&mut lengths) {
+    if !input::cases::read_numbers(&mut lengths) {
         return false;
     }
     let n = next_size(buf.len());

@@ -2,7 +2,7 @@
 ghost use mathlib.Core.Path.{_≡_};
 ghost use Prim.Native.Nat.{_<_};
 ghost use lib.ListN.{length};
-ghost use Rattle.input.specs.Cases.{CaseWithin};
+ghost use Rattle.input.specs.Cases.{CaseWithin, GotWithin};
 use crate::Input;
 use libc::STDERR_FILENO;
 
@@ -20,6 +20,12 @@ pub enum Case {
     End,
     Cut,
     Failed,
+}
+
+// How many cells of a list were read, or that the input ended within them or they are too many.
+pub enum Got {
+    Cells(usize),
+    Cut,
 }
 
 fn wide(x: u8) -> u32
@@ -43,6 +49,35 @@ pub fn next_number() -> Next {
     Next::Number(
         wide(head[0]) + 256 * wide(head[1]) + 65536 * wide(head[2]) + 16777216 * wide(head[3]),
     )
+}
+
+// A number for each cell; false where the input ends within them.
+pub fn read_numbers(out: &mut [u32]) -> bool {
+    let mut i = 0;
+    while i < out.len() {
+        let piece = next_number();
+        let Next::Number(x) = piece else {
+            return false;
+        };
+        out[i] = x;
+        i += 1;
+    }
+    true
+}
+
+// A list is a count and that many numbers.
+pub fn read_list(out: &mut [u32]) -> Got
+    ensures { λ r. ⌜ GotWithin r (length (now (out .exit))) ⌝ }
+{
+    let head = next_number();
+    let Next::Number(count) = head else {
+        return Got::Cut;
+    };
+    let n = count as usize;
+    if out.len() < n {
+        return Got::Cut;
+    }
+    if read_numbers(&mut out[..n]) { Got::Cells(n) } else { Got::Cut }
 }
 
 // The bytes of a case whose length is known; one that is longer than the buffer counts as cut.

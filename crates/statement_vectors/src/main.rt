@@ -3,44 +3,16 @@
 // A statement is a length and a sheet of that many bytes, a price, and figures, money, schedule and amounts, each a count and that many
 // cells. Numbers have 32 bits, the low byte first; a cell of money has 64.
 use input::cases::Case;
+use input::cases::Got;
 use input::cases::Next;
 use libc::STDERR_FILENO;
 use libc::STDOUT_FILENO;
 ghost use Prim.Native.Nat.{_<_, _+_};
 ghost use lib.ListN.{length};
-ghost use Rattle.statement_vectors.specs.Pieces.{GotWithin};
-
-// How many cells of a list were read, or that the input ended within them or they are too many.
-enum Got {
-    Cells(usize),
-    Cut,
-}
+ghost use Rattle.input.specs.Cases.{GotWithin};
 
 // More statements than these are not looked at.
 const MOST_STATEMENTS: u64 = 1000000;
-
-fn read_list(out: &mut [u32]) -> Got
-    ensures { λ r. ⌜ GotWithin r (length (now (out .exit))) ⌝ }
-{
-    let head = input::cases::next_number();
-    let Next::Number(count) = head else {
-        return Got::Cut;
-    };
-    let n = count as usize;
-    if out.len() < n {
-        return Got::Cut;
-    }
-    let mut i = 0;
-    while i < n {
-        let piece = input::cases::next_number();
-        let Next::Number(x) = piece else {
-            return Got::Cut;
-        };
-        out[i] = x;
-        i += 1;
-    }
-    Got::Cells(n)
-}
 
 // So much below zero.
 fn minus(m: u64) -> i64
@@ -109,7 +81,7 @@ fn run_statement(number: u64, sheet: &[u8]) -> bool {
     let Next::Number(price) = head else {
         return false;
     };
-    let first = read_list(&mut figures);
+    let first = input::cases::read_list(&mut figures);
     let Got::Cells(f) = first else {
         return false;
     };
@@ -117,11 +89,11 @@ fn run_statement(number: u64, sheet: &[u8]) -> bool {
     let Got::Cells(m) = second else {
         return false;
     };
-    let third = read_list(&mut schedule);
+    let third = input::cases::read_list(&mut schedule);
     let Got::Cells(s) = third else {
         return false;
     };
-    let fourth = read_list(&mut amounts);
+    let fourth = input::cases::read_list(&mut amounts);
     let Got::Cells(t) = fourth else {
         return false;
     };

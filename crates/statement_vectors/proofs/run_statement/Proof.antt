@@ -2,8 +2,8 @@ use borrow.Author.Needs.{needs}
 use mathlib.Core.Path.{sym}
 use lib.ListN.{length}
 use lib.Seq.{length-take-le}
-use Rattle.statement_vectors.specs.Pieces.{GotWithin}
-use Rattle.statement_vectors.specs.declared.Got.{Got}
+use Rattle.input.specs.Cases.{GotWithin}
+use Rattle.input.specs.declared.cases.Got.{Got}
 use Rattle.statement_vectors.proofs.run_statement.Statement.{statement}
 use Rattle.statement_vectors.proofs.run_statement.Tie as tie
 
