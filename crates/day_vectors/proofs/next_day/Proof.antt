@@ -14,7 +14,7 @@ slice-aggregate-run-day c = sym (length-take-le _ _ (omega arith))
 pub next-day-spec : {M : Type 1} → statement M
 next-day-spec =
     tie.close
-    (tie.spec (λ c κs. search needs) (λ c. search needs) (λ c κs. search needs) (λ c. search needs)
+    (tie.spec (λ c. search needs) (λ c κs. search needs) (λ c. search needs) (λ c κs. search needs) (λ c. search needs)
     slice-aggregate-read-all (λ c κs. search needs) (λ c. search needs) (λ c. search needs) (λ c. search needs)
     (λ c. search needs) (λ c. search needs) (λ c κs. search needs) (λ c. search needs) (λ c. search needs)
     (λ c. search needs) slice-aggregate-run-day (λ c κs. search needs) (λ c. search needs) (λ c. search needs))
