@@ -77,7 +77,11 @@ pub fn read_list(out: &mut [u32]) -> Got
     if out.len() < n {
         return Got::Cut;
     }
-    if read_numbers(&mut out[..n]) { Got::Cells(n) } else { Got::Cut }
+    if read_numbers(&mut out[..n]) {
+        Got::Cells(n)
+    } else {
+        Got::Cut
+    }
 }
 
 // The bytes of a case whose length is known; one that is longer than the buffer counts as cut.
