@@ -67,14 +67,14 @@ pub record Posted (h : Sheet) (before after : Ledger) : Type 0 where
   pub own : Filled 0 (before .own) (after .own) (agents h) (unscheduled h)
   pub imports : Filled 0 (before .imports) (after .imports) (agents h) (ownImport h)
 
--- the promise of weighing the sheet h that reading accepts: the verdict; the losses, the hour's demand and what central dispatch has to
--- meet of it, 0 where it is refused; and where it is fine the columns
-pub record Weighing (h : Sheet) (before after : Ledger) (r : Weight) : Type 0 where
-  pub answer : r .verdict ≡ balanceVerdict h
-  pub losses : r .losses ≡ cells (balanceVerdict h) (losses h)
-  pub demand : r .demand ≡ cells (balanceVerdict h) (hourDemand h)
-  pub target : r .target ≡ cells (balanceVerdict h) (dispatchDemand h)
-  pub columns : balanceVerdict h ≡ Verdict.Fine → Posted h before after
+-- the promise of weighing the sheet h, by its verdict v: the verdict; the losses, the hour's demand and what central dispatch has to meet
+-- of it, 0 where it is refused; and where it is fine the columns
+pub record Weighing (v : Verdict) (h : Sheet) (before after : Ledger) (r : Weight) : Type 0 where
+  pub answer : r .verdict ≡ v
+  pub losses : r .losses ≡ cells v (losses h)
+  pub demand : r .demand ≡ cells v (hourDemand h)
+  pub target : r .target ≡ cells v (dispatchDemand h)
+  pub columns : v ≡ Verdict.Fine → Posted h before after
 
 -- by the verdict v of the sheet h with the counts c: where it is fine the agents' kinds, loss shares, commercial demands, own energy
 -- and own imports stand in the first cells, with the counts, the losses, the hour's demand and what central dispatch has to meet of it;

@@ -330,7 +330,7 @@ pub fn weigh_read(
     imports: &mut [u32; Agent::MOST],
 ) -> Weight
     requires { ⌜ readOf (now s) ≡ Reading.Accepted c ⌝ }
-    ensures { λ r. ⌜ Weighing (columnsOf (now (s .entry)) c)
+    ensures { λ r. ⌜ Weighing (balanceVerdict (columnsOf (now (s .entry)) c)) (columnsOf (now (s .entry)) c)
         (ledger (now (kinds .entry)) (now (shares .entry)) (now (commercial .entry)) (now (own .entry)) (now (imports .entry)))
         (ledger (now (kinds .exit)) (now (shares .exit)) (now (commercial .exit)) (now (own .exit)) (now (imports .exit))) r ⌝ }
 {

@@ -26,7 +26,7 @@ use Rattle.statement.specs.Quick.{groupGood}
 use Rattle.statement.specs.Hour.{statedOf, hourGood}
 use Rattle.statement.proofs.Emptied.{emptied-good}
 use Rattle.checking.proofs.Together.{decided}
-use Rattle.checking.specs.Accounts.{unseen, blank, unsummed, SeenOf, AllSeen, SummedOf, AllSummed, fineOf, AllFine, agentVerdict}
+use Rattle.checking.specs.Accounts.{unseen, pastEnd, unsummed, SeenOf, AllSeen, SummedOf, AllSummed, fineOf, AllFine, retailerAt}
 use Rattle.checking.specs.declared.passes.Seen.{Seen}
 use Rattle.checking.specs.declared.passes.Summed.{Summed}
 use Rattle.checking.proofs.Loops.{seen-none, seen-more, seen-room, summed-none, summed-more, summed-room, every-none, every-step}
@@ -100,7 +100,7 @@ all-unseen s xs all e =
     record {
       long = ap length e ∙ length-replicate {A = Seen} 64 unseen;
       each =
-          λ a l. rw (e, getD-replicate 64 a unseen blank l) (record {
+          λ a l. rw (e, getD-replicate 64 a unseen pastEnd l) (record {
             seen = seen-none (emptied s a) (onlyOf (s .buyers) a xs) unseen refl refl refl refl refl refl refl;
             firm = omega arith;
             given = omega arith;
@@ -113,19 +113,19 @@ pub all-seen-more : (s : Rows) (xs : List ℕ) (i b : ℕ) (all : List Seen) (r 
     → b ≡ at (s .buyers) i
     → b < 64
     → at (s .quantities) i ≤ 4294967295 → at xs i ≤ 4294967295
-    → Looked (getD all b blank) (at (s .kinds) i) (at (s .prices) i) (at (s .quantities) i) (at xs i) r
+    → Looked (getD all b pastEnd) (at (s .kinds) i) (at (s .prices) i) (at (s .quantities) i) (at xs i) r
     → AllSeen s xs i all → AllSeen s xs (i + 1) (set all b r)
 all-seen-more s xs i b all r l e lb hq hx h k =
     record {
       long = length-set all b r ∙ k .long;
       each =
-          put-each blank (SeenOf s xs (i + 1)) all b 64 r (omega (arith, k .long)) own
+          put-each pastEnd (SeenOf s xs (i + 1)) all b 64 r (omega (arith, k .long)) own
           (λ a la ne. other a ne (k .each a la));
     }
   where
     own : SeenOf s xs (i + 1) b r
     own =
-        let v = getD all b blank in
+        let v = getD all b pastEnd in
         let o = k .each b lb in
         let w = seen-room _ _ _ _ i v r h hq hx (o .firm, o .given, o .asked) in
         record {
@@ -136,9 +136,9 @@ all-seen-more s xs i b all r l e lb hq hx h k =
           asked = w .2;
         }
 
-    other : (a : ℕ) → (a ≡ b → ⊥) → SeenOf s xs i a (getD all a blank) → SeenOf s xs (i + 1) a (getD all a blank)
+    other : (a : ℕ) → (a ≡ b → ⊥) → SeenOf s xs i a (getD all a pastEnd) → SeenOf s xs (i + 1) a (getD all a pastEnd)
     other a ne o =
-        let v = getD all a blank in
+        let v = getD all a pastEnd in
         record {
           seen =
               seen-more (emptied s a) (onlyOf (s .buyers) a xs) i v v
@@ -187,7 +187,7 @@ pub all-summed-more : (s : Rows) (xs : List ℕ) (seen : List Seen) (i b : ℕ) 
     → b ≡ at (s .buyers) i
     → b < 64
     → at (s .quantities) i ≤ 4294967295 → at xs i ≤ 4294967295
-    → Added (getD seen b blank .reach - 1) (above - getD seen b blank .depth) (getD seen b blank .top - 1)
+    → Added (getD seen b pastEnd .reach - 1) (above - getD seen b pastEnd .depth) (getD seen b pastEnd .top - 1)
     (getD all b unsummed) (at (s .kinds) i) (at (s .prices) i) (at (s .quantities) i) (at xs i) r
     → AllSummed s xs seen i all → AllSummed s xs seen (i + 1) (set all b r)
 all-summed-more s xs seen i b all r l e lb hq hx h k =
@@ -252,7 +252,7 @@ pub all-fine-more : (s : Rows) (xs ds : List ℕ) (seen : List Seen) (sums : Lis
     → i < length (s .buyers)
     → b ≡ at (s .buyers) i
     → b < 64
-    → one ≡ groupGood (at ds b - getD seen b blank .firm) (getD seen b blank .top) (getD sums b unsummed .cheaper)
+    → one ≡ groupGood (at ds b - getD seen b pastEnd .firm) (getD seen b pastEnd .top) (getD sums b unsummed .cheaper)
     (getD sums b unsummed .whole) (at (s .kinds) i) (at (s .prices) i) (at (s .quantities) i) (at xs i)
     → AllFine s xs ds seen sums i all → AllFine s xs ds seen sums (i + 1) (set all b (getD all b false && one))
 all-fine-more s xs ds seen sums i b all one l e lb h k =
@@ -298,16 +298,16 @@ module _ (s : Rows) (xs ds : List ℕ) (seen : List Seen) (sums : List Summed) (
   unfolding emptied
   emptied-long a = sym long ∙ sym (length-listTo (onlyOf (s .buyers) a (s .quantities)) (length (s .buyers)))
 
-  agent-good : (a : ℕ) → a < length ds → agentVerdict seen sums fine ds a ≡ good (ownOf s a) (at ds a) (statedOf s xs a)
+  agent-good : (a : ℕ) → a < length ds → retailerAt seen sums fine ds a ≡ good (ownOf s a) (at ds a) (statedOf s xs a)
   agent-good a l =
       let k : a < 64 = omega arith in
       let e = emptied-long a in
-      decided (emptied s a) (at ds a) (onlyOf (s .buyers) a xs) (getD seen a blank) (rw e at (f .each a k .seen)) _
+      decided (emptied s a) (at ds a) (onlyOf (s .buyers) a xs) (getD seen a pastEnd) (rw e at (f .each a k .seen)) _
       refl _ _ _ (getD sums a unsummed) (rw e at (g .each a k .summed)) refl refl refl
       (λ i li. rw (price-at s a i) (small i (omega arith)))
       (getD fine a false) (rw e at (h .each a k))
       ∙ emptied-good s xs a (at ds a)
 
-  pub hour-good : every (length ds) (agentVerdict seen sums fine ds) ≡ hourGood s ds xs
+  pub hour-good : every (length ds) (retailerAt seen sums fine ds) ≡ hourGood s ds xs
   unfolding hourGood
   hour-good = every-eq (length ds) _ _ agent-good

@@ -1,27 +1,23 @@
 -- What the parts of a check find is what the five tests say, and the ways out of each. Assumes nothing.
-use Prim.Native.Nat.{ℕ, _+_, _-_, _*_, _≤_, _<_}
+use Prim.Native.Nat.{ℕ, _+_, _-_, _≤_, _<_}
 use native.Mathlib.Omega.{arith}
-use mathlib.Core.Bool.{Bool, true, false, cond, _&&_}
+use mathlib.Core.Bool.{Bool, true, false, _&&_}
 use mathlib.Core.List.{List}
 use mathlib.Core.Logic.{_⊎_, inl, inr}
 use mathlib.Core.Path.{_≡_, refl, ap, _∙_, sym}
 use lib.Dec.{eqb}
-use lib.IntN.{ℤ, pos}
-use lib.ListN.{length, take, getD}
-use borrow.Author.Tests.{eq-eqb, ne-eqb}
+use lib.ListN.{length, take}
 use Rattle.sums.specs.Sums.{sum}
 use Rattle.sums.specs.Lists.{at, listTo, Filled}
-use Rattle.sums.proofs.Sums.{sum-eq, sum-le, sum-add}
+use Rattle.sums.proofs.Sums.{sum-eq, sum-add}
 use Rattle.sums.proofs.Lists.{zeros-at}
 use Rattle.sums.proofs.Cut.{cut}
 use Rattle.sums.proofs.Fill.{filled-front}
-use Rattle.rows.specs.Limits.{mostAgents, mostPrice}
-use Rattle.rows.specs.Rows.{carriesLosses}
+use Rattle.rows.specs.Limits.{mostAgents, mostOffer}
 use Rattle.refusals.specs.Refusals.{badShares, badSchedule, badPrice, badAmounts, badLines, refused}
 use Rattle.refusals.specs.declared.Verdict.{Verdict}
-use Rattle.merit.specs.Merit.{hourPrice}
 use Rattle.merit.proofs.Price.{price-most}
-use Rattle.hour.specs.Sheet.{Sheet, agents, plants, contracts, retails}
+use Rattle.hour.specs.Sheet.{Sheet, agents, plants, retails}
 use Rattle.hour.specs.Sound.{Sound}
 use Rattle.hour.specs.Balance.{consumption, consumed, ownImport, entering, losses, injected, smallExports, dispatchDemandBy}
 use Rattle.hour.specs.Lines.{ownBy, contractedBy}
@@ -31,13 +27,12 @@ use Rattle.hour.proofs.Demand.{small-metered}
 use Rattle.hour.proofs.Balance.{contracted-by-both, own-by-all}
 use Rattle.balance.specs.Balances.{zeros}
 use Rattle.statement.specs.Decide.{every}
-use Rattle.statement.specs.Hour.{hourGood}
 use Rattle.statement.specs.Points.{demandIn, basisIn, SharesFollow}
-use Rattle.statement.specs.Tests.{shareTest, shareGood, sharesGood, dearest, scheduleGood, priceGood, amountsGood, lineGood, linesGood, pointsVerdict}
+use Rattle.statement.specs.Tests.{shareGood, sharesGood, dearest, scheduleGood, priceGood, amountsGood, lineGood, linesGood, pointsVerdict}
 use Rattle.statement.proofs.Points.{shares-exact}
 use Rattle.statement.proofs.Held.{idle-in, share-in-le}
 use Rattle.checking.specs.Passes.{room}
-use Rattle.checking.specs.Parts.{Addable, Scheduled, scheduleTest, Agreed, lineTest, lineAt, Weighs, Demands, tradeVerdict}
+use Rattle.checking.specs.Parts.{Spacious, sharesTest, Scheduled, scheduleTest, Agreed, lineAt, Weighs, Demands, tradeVerdict}
 use Rattle.checking.specs.declared.plants.Run.{Run}
 use Rattle.checking.proofs.Accounts.{every-eq}
 
@@ -60,8 +55,7 @@ module _ (h : Sheet) (ok : Sound h) (l : Lent) (ks us is js : List ℕ) (x : ℕ
   used-fits = omega (arith, used-sum, consumed-most h ok)
 
   pub shares-are : (n t : ℕ) → agents h ≡ n → t ≡ sum n (at us)
-      → (every n (λ a. shareTest (carriesLosses (at ks a)) x (at us a) t (shareIn l a)) && eqb (sum n (shareIn l)) x)
-      ≡ sharesGood h l
+      → sharesTest ks us (l .figures) n x t ≡ sharesGood h l
   unfolding sharesGood shareGood retails
   shares-are n t en e =
       let all : t ≡ consumed h = e ∙ ap (λ (k : ℕ). sum k (at us)) (sym en) ∙ used-sum in
@@ -156,7 +150,7 @@ module _ (h : Sheet) (ok : Sound h) (l : Lent) (ks ds is js : List ℕ) (w : Dem
       omega (arith, demand-sum, import-sum, small-sum, sum-add (agents h) (demandIn h l) (ownImport h))
 
   -- cells for own energy that hold what no schedule gives, and cells that hold nothing
-  pub addable : (os : List ℕ) → Filled 0 zeros os (agents h) (λ a. at ds a + at js a) → Addable os
+  pub addable : (os : List ℕ) → Filled 0 zeros os (agents h) (λ a. at ds a + at js a) → Spacious os
   addable os f = record { cells = f .long; small = λ a m. go a (cut a (agents h)) }
     where
       go : (a : ℕ) → (a < agents h) ⊎ (agents h ≤ a) → at os a ≤ room 2
@@ -164,7 +158,7 @@ module _ (h : Sheet) (ok : Sound h) (l : Lent) (ks ds is js : List ℕ) (w : Dem
           omega (arith, f .done a m, w .small a m, w .injects a m, injected-le h a, exported-le h ok a)
       go a (inr m) = omega (arith, f .kept a m, zeros-at mostAgents a)
 
-  pub none-added : Addable zeros
+  pub none-added : Spacious zeros
   none-added = record { cells = refl; small = λ a m. omega (arith, zeros-at mostAgents a) }
 
   module _ (d : ℕ) (os os₂ : List ℕ) (v : Run) (e : d ≡ dispatchDemandBy h (demandIn h l))
@@ -177,12 +171,12 @@ module _ (h : Sheet) (ok : Sound h) (l : Lent) (ks ds is js : List ℕ) (w : Dem
     unfolding priceGood
     price-are p = rw (r .price)
 
-    pub price-fits : v .price ≤ mostPrice
+    pub price-fits : v .price ≤ mostOffer
     price-fits =
         omega (
           arith,
           r .price,
-          price-most (at (h .offers)) (at (h .flags)) (scheduleIn l) (plants h) mostPrice (λ i m. ok .plant i m .offer),
+          price-most (at (h .offers)) (at (h .flags)) (scheduleIn l) (plants h) mostOffer (λ i m. ok .plant i m .offer),
         )
 
     own-are : (a : ℕ) → a < agents h → at os₂ a ≡ ownBy h (basisIn h l) a

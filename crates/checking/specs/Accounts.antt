@@ -15,15 +15,15 @@ use Rattle.checking.specs.Passes.{above, room, SeenTo, SummedTo}
 use Rattle.checking.specs.declared.passes.Seen.{Seen}
 use Rattle.checking.specs.declared.passes.Summed.{Summed}
 
-abbrev pub rowsOf : (buyers kinds prices quantities : List ℕ) → Rows
-rowsOf bs ks ps qs = record { buyers = bs; kinds = ks; prices = ps; quantities = qs }
+abbrev pub rowsFrom : (buyers kinds prices quantities : List ℕ) → Rows
+rowsFrom bs ks ps qs = record { buyers = bs; kinds = ks; prices = ps; quantities = qs }
 
 abbrev pub unseen : Seen
 unseen = record { good = true; reach = 0; depth = 0; top = 0; firm = 0; given = 0; asked = 0 }
 
 -- stands past the end of a list of these
-abbrev pub blank : Seen
-blank = record { good = false; reach = 0; depth = 0; top = 0; firm = 0; given = 0; asked = 0 }
+abbrev pub pastEnd : Seen
+pastEnd = record { good = false; reach = 0; depth = 0; top = 0; firm = 0; given = 0; asked = 0 }
 
 abbrev pub unsummed : Summed
 unsummed = record { ahead = 0; largest = 0; under = 0; cheaper = 0; whole = 0 }
@@ -47,11 +47,11 @@ pub record SeenOf (s : Rows) (xs : List ℕ) (n a : ℕ) (v : Seen) : Type 0 whe
 
 pub record AllSeen (s : Rows) (xs : List ℕ) (n : ℕ) (all : List Seen) : Type 0 where
   pub long : length all ≡ 64
-  pub each : (a : ℕ) → a < 64 → SeenOf s xs n a (getD all a blank)
+  pub each : (a : ℕ) → a < 64 → SeenOf s xs n a (getD all a pastEnd)
 
 pub record SummedOf (s : Rows) (xs : List ℕ) (seen : List Seen) (n a : ℕ) (z : Summed) : Type 0 where
-  pub summed : SummedTo (emptied s a) (onlyOf (s .buyers) a xs) (getD seen a blank .reach - 1)
-      (above - getD seen a blank .depth) (getD seen a blank .top - 1) n z
+  pub summed : SummedTo (emptied s a) (onlyOf (s .buyers) a xs) (getD seen a pastEnd .reach - 1)
+      (above - getD seen a pastEnd .depth) (getD seen a pastEnd .top - 1) n z
   pub ahead : z .ahead ≤ room (2 * n)
   pub under : z .under ≤ room (3 * n)
   pub cheaper : z .cheaper ≤ room n
@@ -63,7 +63,7 @@ pub record AllSummed (s : Rows) (xs : List ℕ) (seen : List Seen) (n : ℕ) (al
 
 abbrev pub fineOf : (s : Rows) (xs ds : List ℕ) (seen : List Seen) (sums : List Summed) → (a j : ℕ) → Bool
 fineOf s xs ds seen sums a j =
-    groupGood (at ds a - getD seen a blank .firm) (getD seen a blank .top) (getD sums a unsummed .cheaper)
+    groupGood (at ds a - getD seen a pastEnd .firm) (getD seen a pastEnd .top) (getD sums a unsummed .cheaper)
     (getD sums a unsummed .whole)
     (kind (emptied s a) j) (price (emptied s a) j) (quantity (emptied s a) j) (onlyOf (s .buyers) a xs j)
 
@@ -73,12 +73,12 @@ pub record AllFine (s : Rows) (xs ds : List ℕ) (seen : List Seen) (sums : List
   pub each : (a : ℕ) → a < 64 → getD all a false ≡ every n (fineOf s xs ds seen sums a)
 
 -- what the passes find of one retailer, put together
-abbrev pub verdictOf : Seen → Summed → (groups : Bool) → (left d : ℕ) → Bool
-verdictOf v z groups left d =
+abbrev pub retailerTest : Seen → Summed → (groups : Bool) → (left d : ℕ) → Bool
+retailerTest v z groups left d =
     v .good && ((eqb (v .reach) 0 || ltb (z .ahead - z .largest) d)
     && ((eqb (v .depth) 0 || leb d (z .under)) && (groups && eqb (v .given) (min left (v .asked)))))
 
-abbrev pub agentVerdict : (seen : List Seen) (sums : List Summed) (fine : List Bool) (ds : List ℕ) → ℕ → Bool
-agentVerdict seen sums fine ds a =
-    verdictOf (getD seen a blank) (getD sums a unsummed) (getD fine a false) (at ds a - getD seen a blank .firm)
+abbrev pub retailerAt : (seen : List Seen) (sums : List Summed) (fine : List Bool) (ds : List ℕ) → ℕ → Bool
+retailerAt seen sums fine ds a =
+    retailerTest (getD seen a pastEnd) (getD sums a unsummed) (getD fine a false) (at ds a - getD seen a pastEnd .firm)
     (at ds a)

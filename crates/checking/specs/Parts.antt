@@ -1,55 +1,56 @@
 -- What the parts of a check hand on to each other. Assumes nothing.
-use Prim.Native.Nat.{ℕ, _+_, _-_, _*_, _≤_, _<_, max}
-use mathlib.Core.Bool.{Bool, false, cond, _&&_}
+use Prim.Native.Nat.{ℕ, _+_, _*_, _≤_, _<_, max}
+use mathlib.Core.Bool.{Bool, false, _&&_}
 use mathlib.Core.List.{List, [], _∷_}
 use mathlib.Core.Path.{_≡_}
-use lib.Dec.{ltb, leb, eqb}
+use lib.Dec.{ltb, eqb}
 use lib.IntN.{ℤ, pos}
 use lib.ListN.{length, getD}
 use Rattle.sums.specs.Sums.{sum, peak, pick, keyed}
 use Rattle.sums.specs.Lists.{at}
-use Rattle.rows.specs.Limits.{mostAgents, mostPlants, mostContracts}
+use Rattle.rows.specs.Limits.{mostAgents, mostContracts}
 use Rattle.rows.specs.Rows.{carriesLosses}
 use Rattle.merit.specs.Merit.{hourPrice}
-use Rattle.refusals.specs.Refusals.{noRoom, badSchedule, badPrice, badAmounts, badLines, refusedUnless, firstOf}
+use Rattle.refusals.specs.Refusals.{badSchedule, badPrice, badAmounts, badLines, refusedUnless, firstOf}
 use Rattle.refusals.specs.declared.Verdict.{Verdict}
 use Rattle.hour.specs.Sheet.{Sheet, agents, plants, contracts, retails}
 use Rattle.hour.specs.Balance.{consumption, ownImport, losses, injected}
-use Rattle.hour.specs.Lines.{moneyOf}
-use Rattle.hour.specs.Answer.{Lent, coverOf}
+use Rattle.hour.specs.Lines.{moneyOf, cellsPerAgent}
+use Rattle.hour.specs.Answer.{Lent}
+use Rattle.ground.specs.Ground.{buys, sells}
 use Rattle.statement.specs.Decide.{every}
 use Rattle.statement.specs.Hour.{hourGood}
 use Rattle.statement.specs.Points.{demandIn}
-use Rattle.statement.specs.Tests.{withinTest, orderTest, scheduleGood, priceGood, amountsGood, sameMoney, linesGood}
+use Rattle.statement.specs.Tests.{shareTest, withinTest, orderTest, scheduleGood, priceGood, amountsGood, sameMoney, linesGood}
 use Rattle.checking.specs.Passes.{room}
 use Rattle.checking.specs.declared.plants.Run.{Run}
 
 -- ---- sums by agent, added to what stands in their cells: nothing overflows
-pub record Addable (before : List ℕ) : Type 0 where
+pub record Spacious (before : List ℕ) : Type 0 where
   pub cells : length before ≡ mostAgents
   pub small : (a : ℕ) → a < mostAgents → at before a ≤ room 2
 
-pub record Countable (keys values before : List ℕ) : Type 0 where
+pub record CountableWide (keys values before : List ℕ) : Type 0 where
   pub few : length keys ≤ mostContracts
   pub long : length keys ≤ length values
   pub agent : (j : ℕ) → j < length keys → at keys j < mostAgents
   pub cells : length before ≡ mostAgents
   pub small : (a : ℕ) → a < mostAgents → at before a ≤ room 1024
 
-pub record Tallied (keys values before after : List ℕ) : Type 0 where
+pub record Totalled (keys values before after : List ℕ) : Type 0 where
   pub each : (a : ℕ) → a < mostAgents → at after a ≡ keyed (at keys) (at values) (length keys) a + at before a
   pub most : (a : ℕ) → a < mostAgents → at after a ≤ room (length keys) + at before a
   pub long : length after ≡ length before
 
--- ---- the pass over the plants
+-- ---- the shares: all near their proportion, where there is one, and together the losses
+abbrev pub shareAt : (figures : List ℕ) → ℕ → ℕ
+shareAt f a = at f (cellsPerAgent * a)
 
--- five lists with a cell a plant
-pub record Offered (ts ms ps vs qs : List ℕ) : Type 0 where
-  pub few : length ps ≤ mostPlants
-  pub flags : length ts ≡ length ps
-  pub musts : length ms ≡ length ps
-  pub available : length vs ≡ length ps
-  pub schedule : length ps ≤ length qs
+abbrev pub sharesTest : (kinds used figures : List ℕ) → (n losses consumed : ℕ) → Bool
+sharesTest ks us f n x t =
+    every n (λ a. shareTest (carriesLosses (at ks a)) x (at us a) t (shareAt f a)) && eqb (sum n (shareAt f)) x
+
+-- ---- the pass over the plants
 
 -- one plant more, of this flag, must-run, offer and availability, that is to deliver q
 pub record Ran (v : Run) (flag must offer available q : ℕ) (r : Run) : Type 0 where
@@ -91,14 +92,14 @@ pub record Agreed (h : Sheet) (ds amounts before : List ℕ) (r : Bool) (after :
 -- ---- a line, from the agent's kind and what it has, against the stated cells 1 to 5 and the money
 abbrev pub lineTest : (kind own import contracted price c1 c2 c3 c4 c5 : ℕ) → ℤ → Bool
 lineTest k o i h p c1 c2 c3 c4 c5 m =
-    eqb c1 o && eqb c2 i && eqb c3 h && eqb c4 (cond (carriesLosses k) (c1 - c3) (c3 - c1 + i))
-    && eqb c5 (cond (carriesLosses k) (c3 - c1) (c1 - c3))
+    eqb c1 o && eqb c2 i && eqb c3 h && eqb c4 (buys k c1 i c3) && eqb c5 (sells k c1 c3)
     && sameMoney m (moneyOf c5 c4 p)
 
 abbrev pub lineAt : (kinds own imports held : List ℕ) → (price : ℕ) → (figures : List ℕ) → List ℤ → ℕ → Bool
 lineAt ks os is hs p f m a =
-    lineTest (at ks a) (at os a) (at is a) (at hs a) p (at f (6 * a + 1)) (at f (6 * a + 2)) (at f (6 * a + 3))
-    (at f (6 * a + 4)) (at f (6 * a + 5)) (getD m a (pos 0))
+    let k = cellsPerAgent * a in
+    lineTest (at ks a) (at os a) (at is a) (at hs a) p (at f (k + 1)) (at f (k + 2)) (at f (k + 3)) (at f (k + 4)) (at f (k + 5))
+    (getD m a (pos 0))
 
 -- ---- the agents of the sheet h, as weighing has them: kinds, consumptions, own imports and what small generators deliver, and the
 -- losses
@@ -128,10 +129,3 @@ tradeVerdict s price l =
     ∷ refusedUnless (amountsGood s l) badAmounts 0
     ∷ refusedUnless (linesGood s price l) badLines 0
     ∷ [])
-
--- ---- refusals 10, 13 and 11 behind those of the balance
-abbrev pub roomy : (agents plants contracts figures money schedule amounts : ℕ) → Bool
-roomy n p q f m s t = leb (6 * n) f && leb n m && leb p s && leb q t
-
-abbrev pub judged : Verdict → (demand available mustRun : ℕ) → Bool → Verdict
-judged v d a m room = firstOf (v ∷ coverOf d a m ∷ refusedUnless room noRoom 0 ∷ [])

@@ -4,14 +4,13 @@ use crate::tally;
 use rows::Contract;
 use sheet::Counts;
 ghost use mathlib.Core.Path.{_≡_};
-ghost use Prim.Native.Nat.{ℕ, _≤_, _<_};
+ghost use Prim.Native.Nat.{_≤_};
 ghost use lib.ListN.{length};
 ghost use Rattle.sums.specs.Lists.{at, Filled};
 ghost use Rattle.sheet.specs.Reading.{readOf};
-ghost use Rattle.sheet.specs.Asking.{contractAt};
 ghost use Rattle.sheet.specs.declared.Reading.{Reading};
 ghost use Rattle.columns.specs.Columns.{columnsOf};
-ghost use Rattle.checking.specs.Parts.{Addable, Agreed};
+ghost use Rattle.checking.specs.Parts.{Spacious, Agreed};
 
 // The contract rows by their columns.
 fn columns(
@@ -24,18 +23,19 @@ fn columns(
     quantities: &mut [u32],
 )
     requires { ⌜ readOf (now bytes) ≡ Reading.Accepted c ⌝ }
-    requires { ⌜ (c .contracts ≤ length (now sellers)) × (c .contracts ≤ length (now buyers)) × (c .contracts ≤ length (now kinds)) × (c .contracts ≤ length (now prices)) × (c .contracts ≤ length (now quantities)) ⌝ }
-    ensures { λ _. ⌜ (Filled 0 (now (sellers .entry)) (now (sellers .exit)) (c .contracts) (λ j. contractAt (now (bytes .entry)) c j .seller))
-        × (Filled 0 (now (buyers .entry)) (now (buyers .exit)) (c .contracts) (λ j. contractAt (now (bytes .entry)) c j .buyer))
-        × (Filled 0 (now (kinds .entry)) (now (kinds .exit)) (c .contracts) (λ j. contractAt (now (bytes .entry)) c j .kind))
-        × (Filled 0 (now (prices .entry)) (now (prices .exit)) (c .contracts) (λ j. contractAt (now (bytes .entry)) c j .price))
-        × (Filled 0 (now (quantities .entry)) (now (quantities .exit)) (c .contracts) (λ j. contractAt (now (bytes .entry)) c j .quantity)) ⌝ }
+    requires { ⌜ (c .contracts ≤ length (now sellers)) × (c .contracts ≤ length (now buyers)) × (c .contracts ≤ length (now kinds))
+        × (c .contracts ≤ length (now prices)) × (c .contracts ≤ length (now quantities)) ⌝ }
+    ensures { λ _. ⌜ (Filled 0 (now (sellers .entry)) (now (sellers .exit)) (c .contracts) (at (columnsOf (now (bytes .entry)) c .sellers)))
+        × (Filled 0 (now (buyers .entry)) (now (buyers .exit)) (c .contracts) (at (columnsOf (now (bytes .entry)) c .deals .buyers)))
+        × (Filled 0 (now (kinds .entry)) (now (kinds .exit)) (c .contracts) (at (columnsOf (now (bytes .entry)) c .deals .kinds)))
+        × (Filled 0 (now (prices .entry)) (now (prices .exit)) (c .contracts) (at (columnsOf (now (bytes .entry)) c .deals .prices)))
+        × (Filled 0 (now (quantities .entry)) (now (quantities .exit)) (c .contracts) (at (columnsOf (now (bytes .entry)) c .deals .quantities))) ⌝ }
 {
-    let start = c.agents + c.boundaries + c.plants;
+    let section = sheet::asking::section_of(bytes, c, Contract::SECTION);
     let n = c.contracts;
     let mut j = 0;
     while j < n {
-        let k = rows::contract_of(rows::row_at(bytes, start + j));
+        let k = rows::contract_of(rows::row_at(section, j));
         sellers[j] = k.seller;
         buyers[j] = k.buyer;
         kinds[j] = k.kind;
@@ -55,8 +55,9 @@ pub(crate) fn judge(
     held: &mut [u64],
 ) -> bool
     requires { ⌜ readOf (now bytes) ≡ Reading.Accepted c ⌝ }
-    requires { ⌜ (c .contracts ≤ length (now amounts)) × (length (now demands) ≡ c .agents) × Addable (now held) ⌝ }
-    ensures { λ r. ⌜ Agreed (columnsOf (now (bytes .entry)) c) (now (demands .entry)) (now (amounts .entry)) (now (held .entry)) r (now (held .exit)) ⌝ }
+    requires { ⌜ (c .contracts ≤ length (now amounts)) × (length (now demands) ≡ c .agents) × Spacious (now held) ⌝ }
+    ensures { λ r. ⌜ Agreed (columnsOf (now (bytes .entry)) c) (now (demands .entry)) (now (amounts .entry))
+        (now (held .entry)) r (now (held .exit)) ⌝ }
 {
     let n = c.contracts;
     let mut sellers = [0u32; Contract::MOST];

@@ -6,7 +6,6 @@ use rows::Agent;
 use sheet::Counts;
 use sheet::Reading;
 
-mod admitted;
 mod amounts;
 mod lines;
 mod numbers;
@@ -41,8 +40,12 @@ fn trades(
     amounts: &[u32],
 ) -> Verdict
     requires { ⌜ readOf (now bytes) ≡ Reading.Accepted c ⌝ }
-    requires { ⌜ Roomy (columnsOf (now bytes) c) (stated (now figures) (now money) (now schedule) (now amounts)) × Demands (columnsOf (now bytes) c) (stated (now figures) (now money) (now schedule) (now amounts)) (now kinds) demands (now imports) (now injected) × (length demands ≡ mostAgents) ⌝ }
-    ensures { λ r. ⌜ r ≡ tradeVerdict (columnsOf (now (bytes .entry)) c) price (stated (now (figures .entry)) (now (money .entry)) (now (schedule .entry)) (now (amounts .entry))) ⌝ }
+    requires { ⌜ Roomy (columnsOf (now bytes) c) (stated (now figures) (now money) (now schedule) (now amounts))
+        × Demands (columnsOf (now bytes) c) (stated (now figures) (now money) (now schedule) (now amounts))
+        (now kinds) demands (now imports) (now injected)
+        × (length demands ≡ mostAgents) ⌝ }
+    ensures { λ r. ⌜ r ≡ tradeVerdict (columnsOf (now (bytes .entry)) c) price
+        (stated (now (figures .entry)) (now (money .entry)) (now (schedule .entry)) (now (amounts .entry))) ⌝ }
 {
     let n = c.agents;
     let retailers = shares::total(&demands, n);
@@ -86,8 +89,10 @@ fn points(
     amounts: &[u32],
 ) -> Verdict
     requires { ⌜ readOf (now bytes) ≡ Reading.Accepted c ⌝ }
-    requires { ⌜ Roomy (columnsOf (now bytes) c) (stated (now figures) (now money) (now schedule) (now amounts)) × Weighs (columnsOf (now bytes) c) (now kinds) (now used) (now imports) (now injected) losses ⌝ }
-    ensures { λ r. ⌜ r ≡ pointsVerdict (columnsOf (now (bytes .entry)) c) price (stated (now (figures .entry)) (now (money .entry)) (now (schedule .entry)) (now (amounts .entry))) ⌝ }
+    requires { ⌜ Roomy (columnsOf (now bytes) c) (stated (now figures) (now money) (now schedule) (now amounts))
+        × Weighs (columnsOf (now bytes) c) (now kinds) (now used) (now imports) (now injected) losses ⌝ }
+    ensures { λ r. ⌜ r ≡ pointsVerdict (columnsOf (now (bytes .entry)) c) price
+        (stated (now (figures .entry)) (now (money .entry)) (now (schedule .entry)) (now (amounts .entry))) ⌝ }
 {
     let n = c.agents;
     let consumed = shares::total(used, n);
@@ -122,14 +127,15 @@ fn check_read(
     amounts: &[u32],
 ) -> Verdict
     requires { ⌜ readOf (now bytes) ≡ Reading.Accepted c ⌝ }
-    ensures { λ r. ⌜ r ≡ statedVerdict (columnsOf (now (bytes .entry)) c) price (stated (now (figures .entry)) (now (money .entry)) (now (schedule .entry)) (now (amounts .entry))) ⌝ }
+    ensures { λ r. ⌜ r ≡ statedVerdict (columnsOf (now (bytes .entry)) c) price
+        (stated (now (figures .entry)) (now (money .entry)) (now (schedule .entry)) (now (amounts .entry))) ⌝ }
 {
     let mut kinds = [0u32; Agent::MOST];
     let mut ours = [0u32; Agent::MOST];
     let mut commercial = [0u32; Agent::MOST];
     let mut own = [0u32; Agent::MOST];
     let mut imports = [0u32; Agent::MOST];
-    let w = balance::weigh_read(
+    let w = ground::admit(
         bytes,
         c,
         &mut kinds,
@@ -137,11 +143,12 @@ fn check_read(
         &mut commercial,
         &mut own,
         &mut imports,
+        figures,
+        money,
+        schedule,
+        amounts,
     );
-    let weighed = w.verdict;
-    let target = w.target;
-    let room = admitted::has_room(c, figures.len(), money.len(), schedule.len(), amounts.len());
-    let verdict = admitted::judge(bytes, c, weighed, target, room);
+    let verdict = w.verdict;
     let Verdict::Fine = verdict else {
         return verdict;
     };
@@ -174,7 +181,8 @@ pub fn check(
     schedule: &[u32],
     amounts: &[u32],
 ) -> Verdict
-    ensures { λ r. ⌜ r ≡ checkVerdict (now (bytes .entry)) price (stated (now (figures .entry)) (now (money .entry)) (now (schedule .entry)) (now (amounts .entry))) ⌝ }
+    ensures { λ r. ⌜ r ≡ checkVerdict (now (bytes .entry)) price
+        (stated (now (figures .entry)) (now (money .entry)) (now (schedule .entry)) (now (amounts .entry))) ⌝ }
 {
     match sheet::read(bytes) {
         Reading::Accepted(c) => check_read(bytes, c, price, figures, money, schedule, amounts),

@@ -16,7 +16,7 @@ ghost use Rattle.statement.specs.Decide.{every, isNear};
 ghost use Rattle.statement.specs.Quick.{shapeGood, groupGood};
 ghost use Rattle.statement.specs.Hour.{hourGood};
 ghost use Rattle.checking.specs.Passes.{above, room, Looked, Added};
-ghost use Rattle.checking.specs.Accounts.{rowsOf, Columns, AllSeen, AllSummed, AllFine, verdictOf, agentVerdict};
+ghost use Rattle.checking.specs.Accounts.{rowsFrom, Columns, AllSeen, AllSummed, AllFine, retailerTest, retailerAt};
 
 // What the first pass finds: whether kinds 1 and 2 are in full or 0; one above the highest price at which kind 2 is given
 // something, how far below 2^32 the lowest stands at which it is not, one above the highest at which kind 3 is given something; what
@@ -232,7 +232,7 @@ fn look_rows(
     demands: &[u32],
 ) -> [Seen; Agent::MOST]
     requires { ⌜ Columns (now buyers) (now kinds) (now prices) (now quantities) (now amounts) (now demands) ⌝ }
-    ensures { λ r. ⌜ AllSeen (rowsOf (now (buyers .entry)) (now (kinds .entry)) (now (prices .entry)) (now (quantities .entry))) (now (amounts .entry)) (length (now (quantities .entry))) r ⌝ }
+    ensures { λ r. ⌜ AllSeen (rowsFrom (now (buyers .entry)) (now (kinds .entry)) (now (prices .entry)) (now (quantities .entry))) (now (amounts .entry)) (length (now (quantities .entry))) r ⌝ }
 {
     let mut all = [Seen {
         good: true,
@@ -276,7 +276,7 @@ fn add_rows(
     seen: [Seen; Agent::MOST],
 ) -> [Summed; Agent::MOST]
     requires { ⌜ Columns (now buyers) (now kinds) (now prices) (now quantities) (now amounts) (now demands) × (length seen ≡ mostAgents) ⌝ }
-    ensures { λ r. ⌜ AllSummed (rowsOf (now (buyers .entry)) (now (kinds .entry)) (now (prices .entry)) (now (quantities .entry))) (now (amounts .entry)) seen (length (now (quantities .entry))) r ⌝ }
+    ensures { λ r. ⌜ AllSummed (rowsFrom (now (buyers .entry)) (now (kinds .entry)) (now (prices .entry)) (now (quantities .entry))) (now (amounts .entry)) seen (length (now (quantities .entry))) r ⌝ }
 {
     let mut all = [Summed {
         ahead: 0,
@@ -315,8 +315,8 @@ fn group_rows(
     seen: [Seen; Agent::MOST],
     sums: [Summed; Agent::MOST],
 ) -> [bool; Agent::MOST]
-    requires { ⌜ Columns (now buyers) (now kinds) (now prices) (now quantities) (now amounts) (now demands) × (length seen ≡ mostAgents) × AllSummed (rowsOf (now buyers) (now kinds) (now prices) (now quantities)) (now amounts) seen (length (now quantities)) sums ⌝ }
-    ensures { λ r. ⌜ AllFine (rowsOf (now (buyers .entry)) (now (kinds .entry)) (now (prices .entry)) (now (quantities .entry))) (now (amounts .entry)) (now (demands .entry)) seen sums (length (now (quantities .entry))) r ⌝ }
+    requires { ⌜ Columns (now buyers) (now kinds) (now prices) (now quantities) (now amounts) (now demands) × (length seen ≡ mostAgents) × AllSummed (rowsFrom (now buyers) (now kinds) (now prices) (now quantities)) (now amounts) seen (length (now quantities)) sums ⌝ }
+    ensures { λ r. ⌜ AllFine (rowsFrom (now (buyers .entry)) (now (kinds .entry)) (now (prices .entry)) (now (quantities .entry))) (now (amounts .entry)) (now (demands .entry)) seen sums (length (now (quantities .entry))) r ⌝ }
 {
     let mut all = [true; Agent::MOST];
     let mut i = 0;
@@ -348,7 +348,7 @@ fn agents_good(
     demands: &[u32],
 ) -> bool
     requires { ⌜ (length (now demands) ≤ mostAgents) × (length seen ≡ mostAgents) × (length sums ≡ mostAgents) × (length fine ≡ mostAgents) ⌝ }
-    ensures { λ r. ⌜ r ≡ every (length (now (demands .entry))) (agentVerdict seen sums fine (now (demands .entry))) ⌝ }
+    ensures { λ r. ⌜ r ≡ every (length (now (demands .entry))) (retailerAt seen sums fine (now (demands .entry))) ⌝ }
 {
     let mut ok = true;
     let mut b = 0;
@@ -373,7 +373,7 @@ pub(crate) fn hour_follows(
     demands: &[u32],
 ) -> bool
     requires { ⌜ Columns (now buyers) (now kinds) (now prices) (now quantities) (now amounts) (now demands) ⌝ }
-    ensures { λ r. ⌜ r ≡ hourGood (rowsOf (now (buyers .entry)) (now (kinds .entry)) (now (prices .entry)) (now (quantities .entry))) (now (demands .entry)) (now (amounts .entry)) ⌝ }
+    ensures { λ r. ⌜ r ≡ hourGood (rowsFrom (now (buyers .entry)) (now (kinds .entry)) (now (prices .entry)) (now (quantities .entry))) (now (demands .entry)) (now (amounts .entry)) ⌝ }
 {
     let seen = look_rows(buyers, kinds, prices, quantities, amounts, demands);
     let sums = add_rows(buyers, kinds, prices, quantities, amounts, demands, seen);

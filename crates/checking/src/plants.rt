@@ -4,19 +4,17 @@ use crate::tally;
 use rows::Plant;
 use sheet::Counts;
 ghost use mathlib.Core.Path.{_≡_};
-ghost use mathlib.Core.Bool.{_&&_};
-ghost use Prim.Native.Nat.{ℕ, _≤_, _<_};
-ghost use lib.Dec.{eqb};
+ghost use Prim.Native.Nat.{_≤_};
 ghost use lib.ListN.{length};
-ghost use Rattle.sums.specs.Lists.{at, Filled};
+ghost use Rattle.sums.specs.Lists.{at};
+ghost use Rattle.rows.specs.Limits.{mostPlants};
 ghost use Rattle.sheet.specs.Reading.{readOf};
-ghost use Rattle.sheet.specs.Asking.{plantAt};
 ghost use Rattle.sheet.specs.declared.Reading.{Reading};
 ghost use Rattle.columns.specs.Columns.{columnsOf};
 ghost use Rattle.statement.specs.Decide.{every};
 ghost use Rattle.statement.specs.Tests.{orderTest};
 ghost use Rattle.checking.specs.Passes.{room};
-ghost use Rattle.checking.specs.Parts.{Offered, Ran, RanTo, Addable, Scheduled};
+ghost use Rattle.checking.specs.Parts.{Ran, RanTo, Spacious, Scheduled};
 
 // What a pass over the plants finds: whether each stands within its bounds, what they deliver together, the dearest offer above a
 // must-run, and the highest flexible one that is scheduled.
@@ -43,10 +41,18 @@ fn run_one(v: Run, flag: u32, must: u32, offer: u32, available: u32, q: u32) -> 
     }
 }
 
-// The first pass.
-fn run_all(flags: &[u32], musts: &[u32], offers: &[u32], available: &[u32], schedule: &[u32]) -> Run
-    requires { ⌜ Offered (now flags) (now musts) (now offers) (now available) (now schedule) ⌝ }
-    ensures { λ r. ⌜ RanTo (now (flags .entry)) (now (musts .entry)) (now (offers .entry)) (now (available .entry)) (now (schedule .entry)) (length (now (offers .entry))) r ⌝ }
+// The first pass, over n plants.
+fn run_all(
+    flags: &[u32; Plant::MOST],
+    musts: &[u32; Plant::MOST],
+    offers: &[u32; Plant::MOST],
+    available: &[u32; Plant::MOST],
+    n: usize,
+    schedule: &[u32],
+) -> Run
+    requires { ⌜ (n ≤ mostPlants) × (n ≤ length (now schedule)) ⌝ }
+    ensures { λ r. ⌜ RanTo (now (flags .entry)) (now (musts .entry)) (now (offers .entry)) (now (available .entry))
+        (now (schedule .entry)) n r ⌝ }
 {
     let mut v = Run {
         good: true,
@@ -55,7 +61,7 @@ fn run_all(flags: &[u32], musts: &[u32], offers: &[u32], available: &[u32], sche
         price: 0,
     };
     let mut i = 0;
-    while i < offers.len() {
+    while i < n {
         v = run_one(v, flags[i], musts[i], offers[i], available[i], schedule[i]);
         i += 1;
     }
@@ -70,13 +76,20 @@ fn placed(dearest: u32, offer: u32, available: u32, q: u32) -> bool
 }
 
 // The second pass.
-fn in_order(offers: &[u32], available: &[u32], schedule: &[u32], dearest: u32) -> bool
-    requires { ⌜ (length (now available) ≡ length (now offers)) × (length (now offers) ≤ length (now schedule)) ⌝ }
-    ensures { λ r. ⌜ r ≡ every (length (now (offers .entry))) (λ i. orderTest dearest (at (now (offers .entry)) i) (at (now (available .entry)) i) (at (now (schedule .entry)) i)) ⌝ }
+fn in_order(
+    offers: &[u32; Plant::MOST],
+    available: &[u32; Plant::MOST],
+    n: usize,
+    schedule: &[u32],
+    dearest: u32,
+) -> bool
+    requires { ⌜ (n ≤ mostPlants) × (n ≤ length (now schedule)) ⌝ }
+    ensures { λ r. ⌜ r ≡ every n
+        (λ i. orderTest dearest (at (now (offers .entry)) i) (at (now (available .entry)) i) (at (now (schedule .entry)) i)) ⌝ }
 {
     let mut fine = true;
     let mut i = 0;
-    while i < offers.len() {
+    while i < n {
         let one = placed(dearest, offers[i], available[i], schedule[i]);
         fine = fine & one;
         i += 1;
@@ -84,43 +97,12 @@ fn in_order(offers: &[u32], available: &[u32], schedule: &[u32], dearest: u32) -
     fine
 }
 
-// The plant rows by their columns.
-fn columns(
-    bytes: &[u8],
-    c: Counts,
-    holders: &mut [u32],
-    flags: &mut [u32],
-    musts: &mut [u32],
-    offers: &mut [u32],
-    available: &mut [u32],
-)
-    requires { ⌜ readOf (now bytes) ≡ Reading.Accepted c ⌝ }
-    requires { ⌜ (c .plants ≤ length (now holders)) × (c .plants ≤ length (now flags)) × (c .plants ≤ length (now musts)) × (c .plants ≤ length (now offers)) × (c .plants ≤ length (now available)) ⌝ }
-    ensures { λ _. ⌜ (Filled 0 (now (holders .entry)) (now (holders .exit)) (c .plants) (λ i. plantAt (now (bytes .entry)) c i .agent))
-        × (Filled 0 (now (flags .entry)) (now (flags .exit)) (c .plants) (λ i. plantAt (now (bytes .entry)) c i .inflexible))
-        × (Filled 0 (now (musts .entry)) (now (musts .exit)) (c .plants) (λ i. plantAt (now (bytes .entry)) c i .must))
-        × (Filled 0 (now (offers .entry)) (now (offers .exit)) (c .plants) (λ i. plantAt (now (bytes .entry)) c i .price))
-        × (Filled 0 (now (available .entry)) (now (available .exit)) (c .plants) (λ i. plantAt (now (bytes .entry)) c i .availability)) ⌝ }
-{
-    let start = c.agents + c.boundaries;
-    let n = c.plants;
-    let mut i = 0;
-    while i < n {
-        let p = rows::plant_of(rows::row_at(bytes, start + i));
-        holders[i] = p.agent;
-        flags[i] = p.inflexible;
-        musts[i] = p.must;
-        offers[i] = p.price;
-        available[i] = p.availability;
-        i += 1;
-    }
-}
-
 // Whether the schedule is one for this demand, and its price; each generator's part is added to its own energy.
 pub(crate) fn judge(bytes: &[u8], c: Counts, demand: u64, schedule: &[u32], own: &mut [u64]) -> Run
     requires { ⌜ readOf (now bytes) ≡ Reading.Accepted c ⌝ }
-    requires { ⌜ (c .plants ≤ length (now schedule)) × Addable (now own) ⌝ }
-    ensures { λ r. ⌜ Scheduled (columnsOf (now (bytes .entry)) c) demand (now (schedule .entry)) (now (own .entry)) r (now (own .exit)) ⌝ }
+    requires { ⌜ (c .plants ≤ length (now schedule)) × Spacious (now own) ⌝ }
+    ensures { λ r. ⌜ Scheduled (columnsOf (now (bytes .entry)) c) demand (now (schedule .entry))
+        (now (own .entry)) r (now (own .exit)) ⌝ }
 {
     let n = c.plants;
     let mut holders = [0u32; Plant::MOST];
@@ -128,7 +110,7 @@ pub(crate) fn judge(bytes: &[u8], c: Counts, demand: u64, schedule: &[u32], own:
     let mut musts = [0u32; Plant::MOST];
     let mut offers = [0u32; Plant::MOST];
     let mut available = [0u32; Plant::MOST];
-    columns(
+    ground::plants::columns(
         bytes,
         c,
         &mut holders,
@@ -138,14 +120,8 @@ pub(crate) fn judge(bytes: &[u8], c: Counts, demand: u64, schedule: &[u32], own:
         &mut available,
     );
     tally::tally(&holders[..n], schedule, own);
-    let v = run_all(
-        &flags[..n],
-        &musts[..n],
-        &offers[..n],
-        &available[..n],
-        schedule,
-    );
-    let order = in_order(&offers[..n], &available[..n], schedule, v.dearest);
+    let v = run_all(&flags, &musts, &offers, &available, n, schedule);
+    let order = in_order(&offers, &available, n, schedule, v.dearest);
     Run {
         good: v.good & (v.total == demand) & order,
         total: v.total,

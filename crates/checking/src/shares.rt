@@ -2,17 +2,16 @@
 use crate::numbers;
 use rows::Agent;
 ghost use mathlib.Core.Path.{_≡_};
-ghost use mathlib.Core.Bool.{_&&_};
 ghost use Prim.Native.Nat.{ℕ, _+_, _-_, _*_, _≤_, _<_};
-ghost use lib.Dec.{eqb};
 ghost use lib.ListN.{length};
 ghost use Rattle.sums.specs.Sums.{sum};
 ghost use Rattle.sums.specs.Lists.{at, Filled};
 ghost use Rattle.rows.specs.Limits.{mostAgents};
 ghost use Rattle.rows.specs.Rows.{carriesLosses};
-ghost use Rattle.statement.specs.Decide.{every};
+ghost use Rattle.hour.specs.Lines.{cellsPerAgent};
 ghost use Rattle.statement.specs.Tests.{shareTest};
 ghost use Rattle.checking.specs.Passes.{room};
+ghost use Rattle.checking.specs.Parts.{shareAt, sharesTest};
 
 // One column of n agents less another.
 pub(crate) fn differences(
@@ -64,14 +63,14 @@ pub(crate) fn good(
     consumed: u64,
     figures: &[u32],
 ) -> bool
-    requires { ⌜ (n ≤ mostAgents) × (6 * n ≤ length (now figures)) ⌝ }
-    ensures { λ r. ⌜ r ≡ (every n (λ a. shareTest (carriesLosses (at (now (kinds .entry)) a)) losses (at (now (used .entry)) a) consumed (at (now (figures .entry)) (6 * a))) && eqb (sum n (λ a. at (now (figures .entry)) (6 * a))) losses) ⌝ }
+    requires { ⌜ (n ≤ mostAgents) × (cellsPerAgent * n ≤ length (now figures)) ⌝ }
+    ensures { λ r. ⌜ r ≡ sharesTest (now (kinds .entry)) (now (used .entry)) (now (figures .entry)) n losses consumed ⌝ }
 {
     let mut fine = true;
     let mut sum = 0;
     let mut a = 0;
     while a < n {
-        let share = figures[6 * a];
+        let share = figures[Agent::CELLS * a];
         let one = share_good(kinds[a], losses, used[a], consumed, share);
         fine = fine & one;
         sum += sums::wide(share);
@@ -82,13 +81,13 @@ pub(crate) fn good(
 
 // The commercial demands with their shares.
 pub(crate) fn demands(used: &[u32; Agent::MOST], figures: &[u32], n: usize, out: &mut [u32])
-    requires { ⌜ (n ≤ mostAgents) × (6 * n ≤ length (now figures)) × (n ≤ length (now out)) ⌝ }
-    requires { ⌜ ((a : ℕ) → a < n → at (now used) a + at (now figures) (6 * a) ≤ 4294967295) ⌝ }
-    ensures { λ _. ⌜ Filled 0 (now (out .entry)) (now (out .exit)) n (λ a. at (now (used .entry)) a + at (now (figures .entry)) (6 * a)) ⌝ }
+    requires { ⌜ (n ≤ mostAgents) × (cellsPerAgent * n ≤ length (now figures)) × (n ≤ length (now out)) ⌝ }
+    requires { ⌜ ((a : ℕ) → a < n → at (now used) a + shareAt (now figures) a ≤ 4294967295) ⌝ }
+    ensures { λ _. ⌜ Filled 0 (now (out .entry)) (now (out .exit)) n (λ a. at (now (used .entry)) a + shareAt (now (figures .entry)) a) ⌝ }
 {
     let mut a = 0;
     while a < n {
-        out[a] = used[a] + figures[6 * a];
+        out[a] = used[a] + figures[Agent::CELLS * a];
         a += 1;
     }
 }

@@ -15,15 +15,15 @@ use Rattle.refusals.specs.declared.Verdict.{Verdict}
 use Rattle.rows.specs.Limits.{mostAgents, mostQuantity}
 use Rattle.rows.specs.Rows.{contractOf}
 use Rattle.rows.specs.declared.Contract.{Contract}
-use Rattle.rows.proofs.Stretch.{stretch, stretch-length, stretch-row}
 use Rattle.deals.specs.Hour.{Rows, hourAmount}
 use Rattle.contracts.specs.Assign.{countIn, dealIn, dealsIn, assignVerdict, Assigned}
 use Rattle.contracts.proofs.Verdicts.{Laid, Row, assign-fine}
-use Rattle.sheet.specs.Reading.{contractStart, readOf}
-use Rattle.sheet.specs.Asking.{contractAt}
+use Rattle.sheet.specs.Reading.{readOf}
+use Rattle.sheet.specs.Asking.{contractAt, rowsIn, sectionOf}
 use Rattle.sheet.specs.declared.Counts.{Counts}
 use Rattle.sheet.specs.declared.Reading.{Reading}
-use Rattle.sheet.proofs.Accepted.{accepted-length, accepted-few, accepted-contract}
+use Rattle.sheet.proofs.Accepted.{accepted-few, accepted-contract}
+use Rattle.sheet.proofs.Sections.{section-length, contract-row}
 use Rattle.hour.specs.Sheet.{Sheet, agents, contracts}
 use Rattle.hour.specs.Sound.{Sound}
 use Rattle.hour.specs.Balance.{commercial, demands}
@@ -41,25 +41,22 @@ demands-long h = length-listTo (commercial h) (agents h)
 
 -- ---- the section is the contract rows of the sheet
 module _ (s : List ℕ) (c : Counts) (e : readOf s ≡ Reading.Accepted c) (sec : List ℕ)
-    (is : sec ≡ stretch s (contractStart c) (c .contracts)) where
+    (is : sec ≡ sectionOf s c 4) where
   abbrev h : Sheet
   h = columnsOf s c
 
   ok : Sound (columnsOf s c)
   ok = sound s c e
 
-  within : 16 * contractStart c + 16 * c .contracts ≤ length s
-  within = omega (arith, accepted-length s c e)
-
   long : length sec ≡ 16 * c .contracts
-  long = ap length is ∙ stretch-length s (contractStart c) (c .contracts) within
+  unfolding rowsIn
+  long = ap length is ∙ section-length s c e 4
 
   count : countIn sec ≡ c .contracts
   count = omega (arith, long)
 
   row : (j : ℕ) → j < c .contracts → dealIn sec j ≡ contractAt s c j
-  row j l =
-      ap (λ (b : List ℕ). dealIn b j) is ∙ ap contractOf (stretch-row s (contractStart c) (c .contracts) within j l)
+  row j l = ap (λ (b : List ℕ). dealIn b j) is ∙ ap contractOf (contract-row s c e j l)
 
   column : (f : Contract → ℕ)
       → listTo (λ j. f (dealIn sec j)) (countIn sec) ≡ listTo (λ j. f (contractAt s c j)) (c .contracts)

@@ -3,16 +3,16 @@ use Prim.Native.Nat.{ℕ, _+_, _-_, _*_, _≤_, _<_}
 use native.Mathlib.Omega.{arith}
 use native.Mathlib.Decide.{decLt}
 use mathlib.Core.List.{List}
-use mathlib.Core.Path.{_≡_, refl, ap, _∙_, sym}
+use mathlib.Core.Path.{_≡_, refl, ap, ap₂, _∙_, sym}
 use lib.Dec.{ltb, eqb}
 use lib.IntN.{ℤ, pos}
 use lib.ListN.{length, take}
 use Rattle.sums.specs.Sums.{sum, pick, keyed}
 use Rattle.sums.specs.Lists.{at, Filled}
 use Rattle.sums.proofs.Sums.{sum-eq, peak-eq}
-use Rattle.sums.proofs.Lists.{zeros-at, length-listTo, getD-listTo}
+use Rattle.sums.proofs.Lists.{zeros-at, length-listTo, getD-listTo, listTo-eq}
 use Rattle.sums.proofs.Keyed.{keyed-eq}
-use Rattle.sums.proofs.Fill.{filled-count, filled-by, filled-then, front-at, front-long}
+use Rattle.sums.proofs.Fill.{filled-count, filled-by, filled-then, filled-front, front-at, front-long}
 use Rattle.refusals.specs.declared.Verdict.{Verdict}
 use Rattle.rows.specs.Limits.{mostAgents, mostPlants, mostAvailable}
 use Rattle.merit.specs.Merit.{schedule, idealDispatch, hourPrice}
@@ -25,12 +25,26 @@ use Rattle.hour.specs.Sound.{Sound}
 use Rattle.hour.specs.Balance.{lossShare, ownImport, dispatchDemand}
 use Rattle.hour.specs.Lines.{scheduled, bolsaPrice, own, contracted, bought, sold, money, cellsPerAgent, figure}
 use Rattle.hour.proofs.Balance.{own-all}
-use Rattle.hour.proofs.Bounds.{scheduled-le, import-le, imported-le, exported-le, injected-le}
-use Rattle.hour.proofs.Fits.{contracted-le, commercial-most}
-use Rattle.hour.proofs.Verdicts.{balanced}
+use Rattle.hour.proofs.Bounds.{scheduled-le, exported-le, injected-le}
+use Rattle.hour.proofs.Fits.{commercial-most, bought-le}
+use Rattle.hour.proofs.Verdicts.{Balanced, balanced}
 use Rattle.hour.proofs.Cells.{figure-is}
 use Rattle.balance.specs.Balances.{zeros, unscheduled}
-use Rattle.settle.specs.Parts.{Countable, Tallied, spareOf, Covered, buys, sells, lineCell, lineMoney}
+use Rattle.ground.specs.Ground.{buys, sells}
+use Rattle.settle.specs.Parts.{Countable, Tallied, spareOf, Covered, lineCell, lineMoney}
+
+-- ---- what each plant has to spare, from its columns
+pub spare-are : (h : Sheet) (n : ℕ)
+    → plants h ≡ n
+    → (ms vs l : List ℕ)
+    → n ≤ length vs
+    → ((i : ℕ) → i < n → at ms i ≡ at (h .mustRun) i)
+    → ((i : ℕ) → i < n → at vs i ≡ at (h .available) i)
+    → Filled 0 vs l n (λ i. at vs i - at ms i)
+    → take n l ≡ spareOf h
+unfolding spareOf
+spare-are h n e ms vs l room m v f =
+    filled-front 0 vs l n _ room f ∙ rw e (listTo-eq _ _ _ (λ i k. ap₂ _-_ (v i k) (m i k)))
 
 -- ---- the schedule: the price order over what is spare, for the demand that the must-runs leave, and then the must-runs added
 module _ (h : Sheet) (ok : Sound h) (d : ℕ) (before cs : List ℕ) (cover : Covered h d (length before) cs) where
@@ -173,6 +187,6 @@ module _ (h : Sheet) (n : ℕ) (e : agents h ≡ n) (ks ss os is cs : List ℕ)
       filled-count (pos 0) _ _ _ _ _ (sym e)
       (filled-by (pos 0) _ _ _ _ _ (λ a l. rw (bought-is a l, sold-is a l, q)) f)
 
-  -- a generator's shortfall and its own import fit together
-  pub lines-fit : Sound h → (a : ℕ) → a < n → at cs a - at os a + at is a ≤ 4294967295
-  lines-fit ok a l = omega (arith, c a l, i a l, contracted-le h ok a, import-le h a, imported-le h ok a)
+  -- what each buys fits its cell
+  pub lines-fit : Sound h → Balanced h → (a : ℕ) → a < n → buys (at ks a) (at os a) (at is a) (at cs a) ≤ 4294967295
+  lines-fit ok b a l = omega (arith, bought-is a l, bought-le h ok b a (omega arith))

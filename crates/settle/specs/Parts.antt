@@ -1,23 +1,20 @@
 -- What the parts of a settlement hand on to each other. Assumes nothing.
 use Prim.Native.Nat.{ℕ, _+_, _-_, _*_, _/_, _%_, _≤_, _<_}
-use mathlib.Core.Bool.{Bool, cond, _&&_}
-use mathlib.Core.List.{List, [], _∷_}
+use mathlib.Core.List.{List}
 use mathlib.Core.Path.{_≡_}
-use lib.Dec.{leb}
 use lib.IntN.{ℤ}
 use lib.ListN.{length, set}
 use Rattle.sums.specs.Sums.{sum, keyed}
 use Rattle.sums.specs.Lists.{at, listTo, Filled}
-use Rattle.refusals.specs.Refusals.{noRoom, refusedUnless, firstOf}
 use Rattle.refusals.specs.declared.Refusal.{Refusal}
 use Rattle.refusals.specs.declared.Verdict.{Verdict}
 use Rattle.rows.specs.Limits.{mostAgents, mostPlants, mostContracts, mostAvailable, mostQuantity}
-use Rattle.rows.specs.Rows.{carriesLosses}
 use Rattle.balance.specs.Balances.{zeros, unscheduled}
+use Rattle.ground.specs.Ground.{buys, sells}
 use Rattle.contracts.specs.Assign.{countIn, dealIn}
 use Rattle.hour.specs.Sheet.{Sheet, agents, plants, contracts}
 use Rattle.hour.specs.Balance.{demands, dispatchDemand}
-use Rattle.hour.specs.Answer.{balanceVerdict, coverOf}
+use Rattle.hour.specs.Answer.{balanceVerdict}
 use Rattle.hour.specs.Lines.{scheduled, bolsaPrice, amount, own, contracted, moneyOf, cellsPerAgent, cellOf}
 use Rattle.hour.specs.declared.Summary.{Summary}
 
@@ -34,12 +31,7 @@ abbrev pub Tallied : (keys values before after : List ℕ) → Type 0
 Tallied keys values before after =
     (a : ℕ) → a < mostAgents → at after a ≡ keyed (at keys) (at values) (length keys) a + at before a
 
--- ---- an agent's line, from its kind and what it has
-abbrev pub buys : (kind own import contracted : ℕ) → ℕ
-buys kind own import contracted = cond (carriesLosses kind) (own - contracted) (contracted - own + import)
-
-abbrev pub sells : (kind own contracted : ℕ) → ℕ
-sells kind own contracted = cond (carriesLosses kind) (contracted - own) (own - contracted)
+-- ---- the lines
 
 -- the cells of one agent, from k on
 abbrev pub lineSet : List ℕ → (k share own import contracted bought sold : ℕ) → List ℕ
@@ -58,13 +50,6 @@ lineMoney ks os is cs price a =
 -- ---- a refusal, with price, demand and losses 0
 abbrev pub turnedAway : Refusal → Summary
 turnedAway r = record { number = r .number; place = r .place; price = 0; demand = 0; losses = 0 }
-
--- ---- refusals 10, 13 and 11 behind those of the balance
-abbrev pub roomy : (agents plants contracts figures money schedule amounts : ℕ) → Bool
-roomy n p q f m s t = leb (cellsPerAgent * n) f && leb n m && leb p s && leb q t
-
-abbrev pub lateVerdict : Verdict → (demand available mustRun : ℕ) → Bool → Verdict
-lateVerdict v d a m room = firstOf (v ∷ coverOf d a m ∷ refusedUnless room noRoom 0 ∷ [])
 
 -- ---- the plants of the sheet h
 

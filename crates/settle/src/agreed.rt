@@ -1,4 +1,5 @@
 // The contracts of an accepted sheet: what each of them is assigned, and what it comes to by agent.
+use rows::Contract;
 use sheet::Counts;
 ghost use mathlib.Core.Path.{_≡_};
 ghost use lib.ListN.{length};
@@ -36,11 +37,10 @@ pub(crate) fn agree(
 )
     requires { ⌜ readOf (now bytes) ≡ Reading.Accepted c ⌝ }
     requires { ⌜ Demanding (columnsOf (now bytes) c) (now demands) (length (now amounts)) × (now contracted ≡ zeros) ⌝ }
-    ensures { λ _. ⌜ Agrees (columnsOf (now (bytes .entry)) c) (now (contracted .exit)) (now (amounts .entry)) (now (amounts .exit)) ⌝ }
+    ensures { λ _. ⌜ Agrees (columnsOf (now (bytes .entry)) c) (now (contracted .exit))
+        (now (amounts .entry)) (now (amounts .exit)) ⌝ }
 {
-    let start = 16 * (c.agents + c.boundaries + c.plants);
-    let end = start + 16 * c.contracts;
-    let section = &bytes[start..end];
+    let section = sheet::asking::section_of(bytes, c, Contract::SECTION);
     contracts::assign(section, demands, amounts);
     hold(section, amounts, contracted);
 }

@@ -13,18 +13,12 @@ mod plants;
 mod tally;
 
 ghost use mathlib.Core.Path.{_≡_};
-ghost use Prim.Native.Nat.{_≤_};
 ghost use lib.ListN.{length};
-ghost use Rattle.sums.specs.Sums.{sum};
-ghost use Rattle.sums.specs.Lists.{at};
-ghost use Rattle.rows.specs.Limits.{mostAgents};
-ghost use Rattle.refusals.specs.declared.Verdict.{Verdict};
 ghost use Rattle.sheet.specs.Reading.{readOf};
 ghost use Rattle.sheet.specs.declared.Reading.{Reading};
 ghost use Rattle.columns.specs.Columns.{columnsOf};
-ghost use Rattle.hour.specs.Sheet.{plants};
 ghost use Rattle.balance.specs.Balances.{zeros};
-ghost use Rattle.settle.specs.Parts.{Covered, Demanding, Trades, turnedAway, roomy, lateVerdict};
+ghost use Rattle.settle.specs.Parts.{Covered, Demanding, Trades, turnedAway};
 ghost use Rattle.settle.specs.Settled.{lent, Settles, Settled};
 
 fn turned_away(r: Refusal) -> Summary
@@ -37,38 +31,6 @@ fn turned_away(r: Refusal) -> Summary
         demand: 0,
         losses: 0,
     }
-}
-
-// Lists as long as the counts ask for.
-fn has_room(c: Counts, figures: usize, money: usize, schedule: usize, amounts: usize) -> bool
-    requires { ⌜ c .agents ≤ mostAgents ⌝ }
-    ensures { λ r. ⌜ r ≡ roomy (c .agents) (c .plants) (c .contracts) figures money schedule amounts ⌝ }
-{
-    (Agent::CELLS * c.agents <= figures)
-        & (c.agents <= money)
-        & (c.plants <= schedule)
-        & (c.contracts <= amounts)
-}
-
-// Refusals 1 to 9 as weighing has them, then 10, then 13, then 11.
-fn judge(bytes: &[u8], c: Counts, weighed: Verdict, target: u32, room: bool) -> Verdict
-    requires { ⌜ (weighed ≡ Verdict.Fine → readOf (now bytes) ≡ Reading.Accepted c) ⌝ }
-    ensures { λ r. ⌜ r ≡ lateVerdict weighed target (sum (plants (columnsOf (now (bytes .entry)) c)) (at (columnsOf (now (bytes .entry)) c .available))) (sum (plants (columnsOf (now (bytes .entry)) c)) (at (columnsOf (now (bytes .entry)) c .mustRun))) room ⌝ }
-{
-    let Verdict::Fine = weighed else {
-        return weighed;
-    };
-    let offer = plants::offered(bytes, c);
-    if offer.available < target {
-        return refusals::refuse(Refusal::UNCOVERED, 0);
-    }
-    if target < offer.must {
-        return refusals::refuse(Refusal::OVERRUN, 0);
-    }
-    if room {
-        return Verdict::Fine;
-    }
-    refusals::refuse(Refusal::ROOM, 0)
 }
 
 // Amounts and schedule into the lent lists, what each agent holds under contract and its own energy into its columns: own energy has
@@ -86,7 +48,8 @@ fn trade(
     requires { ⌜ readOf (now bytes) ≡ Reading.Accepted c ⌝ }
     requires { ⌜ Covered (columnsOf (now bytes) c) target (length (now schedule)) (now own) ⌝ }
     requires { ⌜ Demanding (columnsOf (now bytes) c) (now demands) (length (now amounts)) × (now contracted ≡ zeros) ⌝ }
-    ensures { λ r. ⌜ Trades (columnsOf (now (bytes .entry)) c) r (now (own .exit)) (now (contracted .exit)) (now (schedule .entry)) (now (schedule .exit)) (now (amounts .entry)) (now (amounts .exit)) ⌝ }
+    ensures { λ r. ⌜ Trades (columnsOf (now (bytes .entry)) c) r (now (own .exit)) (now (contracted .exit))
+        (now (schedule .entry)) (now (schedule .exit)) (now (amounts .entry)) (now (amounts .exit)) ⌝ }
 {
     agreed::agree(bytes, c, demands, amounts, contracted);
     plants::generate(bytes, c, target, schedule, own)
@@ -102,7 +65,10 @@ fn settle_read(
     amounts: &mut [u32],
 ) -> Summary
     requires { ⌜ readOf (now bytes) ≡ Reading.Accepted c ⌝ }
-    ensures { λ r. ⌜ Settles (columnsOf (now (bytes .entry)) c) (lent (now (figures .entry)) (now (money .entry)) (now (schedule .entry)) (now (amounts .entry))) (lent (now (figures .exit)) (now (money .exit)) (now (schedule .exit)) (now (amounts .exit))) r ⌝ }
+    ensures { λ r. ⌜ Settles (columnsOf (now (bytes .entry)) c)
+        (lent (now (figures .entry)) (now (money .entry)) (now (schedule .entry)) (now (amounts .entry)))
+        (lent (now (figures .exit)) (now (money .exit)) (now (schedule .exit)) (now (amounts .exit)))
+        r ⌝ }
 {
     let n = c.agents;
     let mut kinds = [0u32; Agent::MOST];
@@ -110,7 +76,7 @@ fn settle_read(
     let mut commercial = [0u32; Agent::MOST];
     let mut own = [0u32; Agent::MOST];
     let mut imports = [0u32; Agent::MOST];
-    let w = balance::weigh_read(
+    let w = ground::admit(
         bytes,
         c,
         &mut kinds,
@@ -118,11 +84,12 @@ fn settle_read(
         &mut commercial,
         &mut own,
         &mut imports,
+        figures,
+        money,
+        schedule,
+        amounts,
     );
-    let weighed = w.verdict;
-    let target = w.target;
-    let room = has_room(c, figures.len(), money.len(), schedule.len(), amounts.len());
-    let verdict = judge(bytes, c, weighed, target, room);
+    let verdict = w.verdict;
     if let Verdict::Refused(r) = verdict {
         return turned_away(r);
     }
@@ -131,7 +98,7 @@ fn settle_read(
         bytes,
         c,
         &commercial[..n],
-        target,
+        w.target,
         &mut own,
         &mut contracted,
         schedule,
@@ -165,7 +132,10 @@ pub fn settle(
     schedule: &mut [u32],
     amounts: &mut [u32],
 ) -> Summary
-    ensures { λ r. ⌜ Settled (now (bytes .entry)) (lent (now (figures .entry)) (now (money .entry)) (now (schedule .entry)) (now (amounts .entry))) (lent (now (figures .exit)) (now (money .exit)) (now (schedule .exit)) (now (amounts .exit))) r ⌝ }
+    ensures { λ r. ⌜ Settled (now (bytes .entry))
+        (lent (now (figures .entry)) (now (money .entry)) (now (schedule .entry)) (now (amounts .entry)))
+        (lent (now (figures .exit)) (now (money .exit)) (now (schedule .exit)) (now (amounts .exit)))
+        r ⌝ }
 {
     match sheet::read(bytes) {
         Reading::Accepted(c) => settle_read(bytes, c, figures, money, schedule, amounts),

@@ -1,44 +1,15 @@
 // The agent's line: its figures and its money.
+use ground::line;
 use rows::Agent;
 ghost use mathlib.Core.Path.{_≡_};
-ghost use Prim.Native.Nat.{ℕ, _+_, _-_, _*_, _/_, _%_, _≤_, _<_};
-ghost use lib.IntN.{ℤ, pos};
+ghost use Prim.Native.Nat.{ℕ, _+_, _*_, _≤_, _<_};
+ghost use lib.IntN.{pos};
 ghost use lib.ListN.{length};
 ghost use Rattle.sums.specs.Lists.{at, Filled};
 ghost use Rattle.rows.specs.Limits.{mostAgents, mostOffer};
-ghost use Rattle.hour.specs.Lines.{moneyOf, cellsPerAgent};
-ghost use Rattle.settle.specs.Parts.{buys, sells, lineSet, lineCell, lineMoney};
-
-// A retailer buys the demand that contracts don't cover; a generator buys its shortfall, and its own import besides.
-fn bought(kind: u32, own: u32, import: u32, contracted: u32) -> u32
-    requires { ⌜ contracted - own + import ≤ 4294967295 ⌝ }
-    ensures { λ r. ⌜ r ≡ buys kind own import contracted ⌝ }
-{
-    if rows::carries_losses(kind) {
-        sums::less(own, contracted)
-    } else {
-        sums::less(contracted, own) + import
-    }
-}
-
-// A retailer sells its contracted excess, a generator what it made beyond its contracts.
-fn sold(kind: u32, own: u32, contracted: u32) -> u32
-    ensures { λ r. ⌜ r ≡ sells kind own contracted ⌝ }
-{
-    if rows::carries_losses(kind) {
-        sums::less(contracted, own)
-    } else {
-        sums::less(own, contracted)
-    }
-}
-
-// The money of one agent, in whole centavos.
-fn owed(sold: u32, bought: u32, price: u32) -> i64
-    requires { ⌜ price ≤ mostOffer ⌝ }
-    ensures { λ r. ⌜ r ≡ moneyOf sold bought price ⌝ }
-{
-    (sold as i64 - bought as i64) * price as i64
-}
+ghost use Rattle.hour.specs.Lines.{cellsPerAgent};
+ghost use Rattle.ground.specs.Ground.{buys};
+ghost use Rattle.settle.specs.Parts.{lineSet, lineCell, lineMoney};
 
 // The cells of one agent in the figures, from k on.
 fn write_line(
@@ -75,14 +46,16 @@ pub(crate) fn write_lines<'a>(
     money: &mut [i64],
 )
     requires { ⌜ (n ≤ mostAgents) × (cellsPerAgent * n ≤ length (now figures)) × (n ≤ length (now money)) × (price ≤ mostOffer) ⌝ }
-    requires { ⌜ ((a : ℕ) → a < n → at (now contracted) a - at (now own) a + at (now imports) a ≤ 4294967295) ⌝ }
-    ensures { λ _. ⌜ Filled 0 (now (figures .entry)) (now (figures .exit)) (cellsPerAgent * n) (lineCell (now (kinds .entry)) (now (shares .entry)) (now (own .entry)) (now (imports .entry)) (now (contracted .entry))) ⌝ }
-    ensures { λ _. ⌜ Filled (pos 0) (now (money .entry)) (now (money .exit)) n (lineMoney (now (kinds .entry)) (now (own .entry)) (now (imports .entry)) (now (contracted .entry)) price) ⌝ }
+    requires { ⌜ ((a : ℕ) → a < n → buys (at (now kinds) a) (at (now own) a) (at (now imports) a) (at (now contracted) a) ≤ 4294967295) ⌝ }
+    ensures { λ _. ⌜ Filled 0 (now (figures .entry)) (now (figures .exit)) (cellsPerAgent * n)
+        (lineCell (now (kinds .entry)) (now (shares .entry)) (now (own .entry)) (now (imports .entry)) (now (contracted .entry))) ⌝ }
+    ensures { λ _. ⌜ Filled (pos 0) (now (money .entry)) (now (money .exit)) n
+        (lineMoney (now (kinds .entry)) (now (own .entry)) (now (imports .entry)) (now (contracted .entry)) price) ⌝ }
 {
     let mut a = 0;
     while a < n {
-        let buys = bought(kinds[a], own[a], imports[a], contracted[a]);
-        let sells = sold(kinds[a], own[a], contracted[a]);
+        let buys = line::bought(kinds[a], own[a], imports[a], contracted[a]) as u32;
+        let sells = line::sold(kinds[a], own[a], contracted[a]);
         write_line(
             Agent::CELLS * a,
             shares[a],
@@ -93,7 +66,7 @@ pub(crate) fn write_lines<'a>(
             sells,
             figures,
         );
-        let m = owed(sells, buys, price);
+        let m = line::owed(sells, buys, price);
         money[a] = m;
         a += 1;
     }

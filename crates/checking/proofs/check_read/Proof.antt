@@ -1,12 +1,19 @@
+-- The refusals of the sheet are told as they come; where there is none, what was weighed is the sheet's, and the points are all that is left.
 use borrow.Author.Needs.{needs}
 use native.Mathlib.Omega.{arith}
 use Prim.Native.Nat.{_≤_}
 use mathlib.Core.Path.{_≡_, _∙_, sym}
+use Rattle.refusals.specs.declared.Verdict.{Verdict}
 use Rattle.rows.specs.Limits.{mostAgents}
 use Rattle.sheet.proofs.Accepted.{accepted-few}
-use Rattle.hour.specs.Answer.{Lent}
+use Rattle.columns.specs.Columns.{columnsOf}
+use Rattle.columns.proofs.Columns.{agents-long}
+use Rattle.hour.specs.Sheet.{Sheet}
+use Rattle.hour.specs.Answer.{Lent, hourVerdict}
+use Rattle.balance.specs.Balances.{zeros, Ledger, ledger}
+use Rattle.ground.proofs.Admitted.{Open, opened}
 use Rattle.checking.specs.Check.{stated}
-use Rattle.checking.proofs.Refusing.{turned, points-left, room-is, weighs}
+use Rattle.checking.proofs.Refusing.{turned, points-left, weighs}
 use Rattle.checking.proofs.check_read.Statement.{statement}
 use Rattle.checking.proofs.check_read.Tie as tie
 
@@ -14,79 +21,82 @@ use Rattle.checking.proofs.check_read.Tie as tie
 abbrev kinds-to-start : tie.After-kinds → tie.Start
 kinds-to-start c = c .before .before .before .before .before
 
-abbrev weigh-to-start : tie.After-weigh-read → tie.Start
-weigh-to-start c = kinds-to-start (c .before .before .before .before .before)
+abbrev admit-to-start : tie.After-admit → tie.Start
+admit-to-start c = kinds-to-start (c .before .before .before .before .before)
+
+abbrev told-to-admit : tie.After-enum-told → tie.After-admit
+told-to-admit c = c .before .before
 
 abbrev told-to-start : tie.After-enum-told → tie.Start
-told-to-start c = weigh-to-start (c .before .before .before .before)
+told-to-start c = admit-to-start (told-to-admit c)
 
-abbrev differences-to-start : tie.After-differences → tie.Start
-differences-to-start c = told-to-start (c .before .before .before .before)
+abbrev used-to-told : tie.After-used → tie.After-enum-told
+used-to-told c = c .before .before .before
+
+abbrev injected-to-used : tie.After-injected → tie.After-used
+injected-to-used c = c .before .before .before .before .before
+
+abbrev injected3-to-injected : tie.After-injected3 → tie.After-injected
+injected3-to-injected c = c .before .before .before .before .before .before
 
 abbrev lists : tie.Start → Lent
 lists c = let a = c .args in stated (a .figures .now) (a .money .now) (a .schedule .now) (a .amounts .now)
 
+abbrev sheet : tie.Start → Sheet
+sheet c = columnsOf (c .args .bytes .now) (c .args .c)
+
 few : (c : tie.Start) → c .args .c .agents ≤ mostAgents
 few c = accepted-few _ _ (c .pre) .agents
 
-weigh-read-requires : tie.Need-weigh-read-requires
-weigh-read-requires c κs = kinds-to-start (c .before .before .before .before) .pre
-
-has-room-requires : tie.Need-has-room-requires
-has-room-requires c κs = few (weigh-to-start c)
-
-judge-requires : tie.Need-judge-requires
-judge-requires c κs = λ e. weigh-to-start (c .before) .pre
-
 returns : tie.Need-returns
 returns c =
-    let at-judge = c .before .before in
-    let at-weigh = at-judge .before .before in
-    let at-kinds = at-weigh .before .before .before .before .before in
-    let at-start = at-kinds .before .before .before .before .before in
-    c .enum-told2 .given .1 ∙ sym
-    (turned _ _ (lists at-start) _ _ _ (at-weigh .weigh-read .ensures) (at-start .args .price) _
-    (rw ((at-judge .before) .has-room .ensures) at (at-judge .judge .ensures)) _ (c .enum-told2 .given .1))
+    let a = c .before .before in
+    let s = admit-to-start a in
+    c .enum-told2 .given .1
+    ∙ sym (turned (sheet s) (s .args .price) (lists s) _ (sym (a .admit .ensures .answer) ∙ c .enum-told2 .given .1))
+
+-- ---- an hour that nothing turns away
+fine : (c : tie.After-enum-told) → hourVerdict (sheet (told-to-start c)) (lists (told-to-start c)) ≡ Verdict.Fine
+fine c = sym (told-to-admit c .admit .ensures .answer) ∙ c .enum-told .given .1
+
+abbrev columns : tie.After-admit → Ledger
+columns c =
+    let l = c .admit .last .1 .1 in ledger (l .0) (l .1 .0) (l .1 .1 .0) (l .1 .1 .1 .0) (l .1 .1 .1 .1 .0)
+
+clear : (c : tie.After-enum-told)
+    → Open (sheet (told-to-start c)) (lists (told-to-start c)) (ledger zeros zeros zeros zeros zeros) (columns (told-to-admit c))
+    (told-to-admit c .admit .result)
+clear c = opened _ _ _ _ _ (told-to-admit c .admit .ensures) (fine c)
 
 differences-requires : tie.Need-differences-requires
-differences-requires c κs = let s = told-to-start (c .before .before .before) in (few s, few s)
+differences-requires c κs = let s = told-to-start (used-to-told c) in (few s, few s)
 
 differences-requires-2 : tie.Need-differences-requires-2
-differences-requires-2 c κs = let s = differences-to-start (c .before .before .before .before) in (few s, few s)
+differences-requires-2 c κs = let s = told-to-start (used-to-told (injected-to-used c)) in (few s, few s)
 
 points-requires : tie.Need-points-requires
 points-requires c κs =
-    let at-differences2 = c .before .before .before .before .before in
-    let at-differences = at-differences2 .before .before .before .before .before in
-    let at-told = at-differences .before .before .before .before in
-    let at-judge = at-told .before .before in
-    let at-weigh = at-judge .before .before in
-    let at-kinds = at-weigh .before .before .before .before .before in
-    let at-start = at-kinds .before .before .before .before .before in (
-      at-start .pre,
+    let i = injected3-to-injected c in
+    let u = injected-to-used i in
+    let t = used-to-told u in
+    let s = told-to-start t in
+    let o = clear t in (
+      s .pre,
       (
-        room-is _ _ (lists at-start) _ _ _ (at-weigh .weigh-read .ensures) (at-start .args .price) _
-            (rw ((at-judge .before) .has-room .ensures) at (at-judge .judge .ensures)) (at-told .enum-told .given .1),
-        weighs _ _ (lists at-start) _ _ _ (at-weigh .weigh-read .ensures) (at-start .args .price) _
-            (rw ((at-judge .before) .has-room .ensures) at (at-judge .judge .ensures)) (at-told .enum-told .given .1) _ _
-            (at-differences .differences .ensures) (at-differences2 .differences2 .ensures),
+        o .room,
+        weighs (sheet s) _ (agents-long _ _) _ (columns (told-to-admit t)) _ (o .columns) (o .losses) _ _
+            ((i .before .before .before .before) .differences .ensures) ((c .before .before .before .before .before) .differences2 .ensures),
       ),
     )
 
 returns-2 : tie.Need-returns-2
 returns-2 c =
-    let at-differences2 = c .before .before .before .before .before .before in
-    let at-differences = at-differences2 .before .before .before .before .before in
-    let at-told = at-differences .before .before .before .before in
-    let at-judge = at-told .before .before in
-    let at-weigh = at-judge .before .before in
-    let at-kinds = at-weigh .before .before .before .before .before in
-    let at-start = at-kinds .before .before .before .before .before in
-    c .points .ensures ∙ sym (points-left _ _ (lists at-start) _ _ _ (at-weigh .weigh-read .ensures) (at-start .args .price) _
-    (rw ((at-judge .before) .has-room .ensures) at (at-judge .judge .ensures)) (at-told .enum-told .given .1))
+    let t = used-to-told (injected-to-used (injected3-to-injected (c .before))) in
+    let s = told-to-start t in
+    c .points .ensures ∙ sym (points-left (sheet s) (s .args .price) (lists s) (fine t))
 
 pub check-read-spec : {M : Type 1} → statement M
 check-read-spec =
     tie.close
-    (tie.spec weigh-read-requires has-room-requires judge-requires (λ c. search needs) (λ c. search needs) returns
-    (λ c. search needs) differences-requires (λ c. search needs) differences-requires-2 points-requires returns-2)
+    (tie.spec (λ c κs. search needs) (λ c. search needs) (λ c. search needs) returns (λ c. search needs) differences-requires
+    (λ c. search needs) differences-requires-2 points-requires returns-2)

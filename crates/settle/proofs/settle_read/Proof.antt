@@ -2,29 +2,29 @@
 -- is none, what weighing and trading hand on is the sheet's own, so that the lines are too.
 use borrow.Author.Needs.{needs}
 use native.Mathlib.Omega.{arith}
-use Prim.Native.Nat.{ℕ, _≤_, _<_, _+_, _-_}
-use mathlib.Core.Bool.{Bool}
+use Prim.Native.Nat.{ℕ, _≤_, _<_}
 use mathlib.Core.List.{List}
-use mathlib.Core.Path.{_≡_, refl, _∙_, sym, ap}
+use mathlib.Core.Path.{_≡_, refl, _∙_, sym}
 use Rattle.refusals.specs.declared.Verdict.{Verdict}
 use Rattle.rows.specs.Limits.{mostAgents}
-use Rattle.sums.specs.Sums.{sum}
 use Rattle.sums.specs.Lists.{at, Filled}
 use Rattle.sums.proofs.Fill.{filled-count, front-fits, front-long}
 use Rattle.sheet.proofs.Accepted.{accepted-few}
 use Rattle.columns.specs.Columns.{columnsOf}
 use Rattle.columns.proofs.Columns.{agents-long, sound}
-use Rattle.hour.specs.Sheet.{Sheet, agents, plants}
+use Rattle.hour.specs.Sheet.{Sheet, agents}
 use Rattle.hour.specs.Sound.{Sound}
 use Rattle.hour.specs.Balance.{lossShare, commercial, ownImport}
 use Rattle.hour.specs.Lines.{own, contracted}
 use Rattle.hour.specs.Answer.{Lent, hourVerdict}
 use Rattle.hour.proofs.Bounds.{price-le}
-use Rattle.balance.specs.Balances.{zeros}
-use Rattle.settle.specs.Parts.{lateVerdict}
+use Rattle.hour.proofs.Verdicts.{balanced}
+use Rattle.balance.specs.Balances.{zeros, Ledger, ledger}
+use Rattle.ground.specs.Ground.{buys}
+use Rattle.ground.proofs.Admitted.{Open, opened}
 use Rattle.settle.specs.Settled.{lent}
 use Rattle.settle.proofs.Stages.{figures-are, money-are, lines-fit}
-use Rattle.settle.proofs.Judged.{verdict-is, Open, opened, demands-are, turned-away}
+use Rattle.settle.proofs.Judged.{demands-are, turned-away}
 use Rattle.settle.proofs.settle_read.Statement.{statement}
 use Rattle.settle.proofs.settle_read.Tie as tie
 
@@ -35,17 +35,14 @@ kinds-to-start c = c .before .before .before .before .before
 abbrev imports-to-start : tie.After-imports → tie.Start
 imports-to-start c = kinds-to-start (c .before .before .before .before)
 
-abbrev weigh-to-start : tie.After-weigh-read → tie.Start
-weigh-to-start c = imports-to-start (c .before)
+abbrev admit-to-start : tie.After-admit → tie.Start
+admit-to-start c = imports-to-start (c .before .before .before .before .before)
 
-abbrev judge-to-start : tie.After-judge → tie.Start
-judge-to-start c = weigh-to-start (c .before .before)
-
-abbrev told-to-weigh : tie.After-enum-told → tie.After-weigh-read
-told-to-weigh c = c .before .before .before .before
+abbrev told-to-admit : tie.After-enum-told → tie.After-admit
+told-to-admit c = c .before .before
 
 abbrev told-to-start : tie.After-enum-told → tie.Start
-told-to-start c = weigh-to-start (told-to-weigh c)
+told-to-start c = admit-to-start (told-to-admit c)
 
 abbrev arg2-to-told : tie.After-trade-arg2 → tie.After-enum-told
 arg2-to-told c = c .before .before .before .before .before
@@ -80,72 +77,48 @@ few c = accepted-few _ _ (c .pre) .agents
 ok : (c : tie.Start) → Sound (sheet c)
 ok c = sound _ _ (c .pre)
 
--- ---- the verdict
-weigh-read-requires : tie.Need-weigh-read-requires
-weigh-read-requires c κs = imports-to-start c .pre
-
-has-room-requires : tie.Need-has-room-requires
-has-room-requires c κs = few (weigh-to-start c)
-
-judge-requires : tie.Need-judge-requires
-judge-requires c κs = λ e. weigh-to-start (c .before) .pre
-
-verdict : (c : tie.After-judge) → c .judge .result ≡ hourVerdict (sheet (judge-to-start c)) (lists (judge-to-start c))
-verdict c =
-    let w = c .before .before in
-    let h = sheet (judge-to-start c) in
-    c .judge .ensures
-    ∙ ap (λ (x : Bool). lateVerdict (w .weigh-read .result .verdict) (w .weigh-read .result .target)
-    (sum (plants h) (at (h .available))) (sum (plants h) (at (h .mustRun))) x) ((c .before) .has-room .ensures)
-    ∙ verdict-is _ _ (lists (judge-to-start c)) _ _ _ (w .weigh-read .ensures)
-
+-- ---- a refusal
 returns : tie.Need-returns
 returns c =
-    let at-judge = c .before .before .before .before in
-    let at-imports = at-judge .before .before .before in
+    let at-told = c .before in
+    let at-admit = at-told .before .before .before in
+    let at-imports = at-admit .before .before .before .before .before in
     let at-kinds = at-imports .before .before .before .before in
     let at-start = at-kinds .before .before .before .before .before in
     rw (c .turned-away .ensures)
     (turned-away (hourVerdict (sheet at-start) (lists at-start)) _ _ _
-    (sym (verdict at-judge) ∙ (c .before .before) .verdict .given .1))
+    (sym (at-admit .admit .ensures .answer) ∙ (at-told .before) .verdict .given .1))
 
 -- ---- an hour that nothing turns away
 fine : (c : tie.After-enum-told) → hourVerdict (sheet (told-to-start c)) (lists (told-to-start c)) ≡ Verdict.Fine
-fine c = sym (verdict (c .before .before)) ∙ c .enum-told .given .1
+fine c = sym (told-to-admit c .admit .ensures .answer) ∙ c .enum-told .given .1
 
-clear : (c : tie.After-enum-told) → Open _ _ (lists (told-to-start c)) _ _ _ (told-to-weigh c .weigh-read .ensures)
-clear c = opened _ _ _ _ _ _ (told-to-weigh c .weigh-read .ensures) (fine c)
+abbrev columns : tie.After-admit → Ledger
+columns c =
+    let l = c .admit .last .1 .1 in ledger (l .0) (l .1 .0) (l .1 .1 .0) (l .1 .1 .1 .0) (l .1 .1 .1 .1 .0)
 
--- what stands in the columns
-abbrev kinds : tie.After-weigh-read → List ℕ
-kinds c = c .weigh-read .last .1 .1 .0
-
-abbrev shares : tie.After-weigh-read → List ℕ
-shares c = c .weigh-read .last .1 .1 .1 .0
-
-abbrev demands : tie.After-weigh-read → List ℕ
-demands c = c .weigh-read .last .1 .1 .1 .1 .0
-
-abbrev imports : tie.After-weigh-read → List ℕ
-imports c = c .weigh-read .last .1 .1 .1 .1 .1 .1 .0
+clear : (c : tie.After-enum-told)
+    → Open (sheet (told-to-start c)) (lists (told-to-start c)) (ledger zeros zeros zeros zeros zeros) (columns (told-to-admit c))
+    (told-to-admit c .admit .result)
+clear c = opened _ _ _ _ _ (told-to-admit c .admit .ensures) (fine c)
 
 kinds-are : (c : tie.After-enum-told) (a : ℕ)
     → a < told-to-start c .args .c .agents
-    → at (kinds (told-to-weigh c)) a ≡ at (sheet (told-to-start c) .kinds) a
+    → at (columns (told-to-admit c) .kinds) a ≡ at (sheet (told-to-start c) .kinds) a
 kinds-are c a l = clear c .columns .kinds .done a (omega (arith, count (told-to-start c)))
 
 shares-are : (c : tie.After-enum-told) (a : ℕ)
     → a < told-to-start c .args .c .agents
-    → at (shares (told-to-weigh c)) a ≡ lossShare (sheet (told-to-start c)) a
+    → at (columns (told-to-admit c) .shares) a ≡ lossShare (sheet (told-to-start c)) a
 shares-are c a l = clear c .columns .shares .done a (omega (arith, count (told-to-start c)))
 
 imports-are : (c : tie.After-enum-told) (a : ℕ)
     → a < told-to-start c .args .c .agents
-    → at (imports (told-to-weigh c)) a ≡ ownImport (sheet (told-to-start c)) a
+    → at (columns (told-to-admit c) .imports) a ≡ ownImport (sheet (told-to-start c)) a
 imports-are c a l = clear c .columns .imports .done a (omega (arith, count (told-to-start c)))
 
 demanded : (c : tie.After-enum-told)
-    → Filled 0 zeros (demands (told-to-weigh c)) (told-to-start c .args .c .agents) (commercial (sheet (told-to-start c)))
+    → Filled 0 zeros (columns (told-to-admit c) .commercial) (told-to-start c .args .c .agents) (commercial (sheet (told-to-start c)))
 demanded c = filled-count 0 _ _ _ _ _ (count (told-to-start c)) (clear c .columns .commercial)
 
 array-share-prefix-commercial : tie.Need-array-share-prefix-commercial
@@ -195,13 +168,14 @@ holds c a l = c .trade .ensures .agrees .contracted .done a (omega (arith, count
 
 fits : (c : tie.After-trade) (a : ℕ)
     → a < trade-to-start c .args .c .agents
-    → at (held c) a - at (energy c) a + at (imports (told-to-weigh (trade-to-told c))) a ≤ 4294967295
+    → buys (at (columns (told-to-admit (trade-to-told c)) .kinds) a) (at (energy c) a)
+    (at (columns (told-to-admit (trade-to-told c)) .imports) a) (at (held c) a) ≤ 4294967295
 fits c =
     let t = trade-to-told c in
-    let w = told-to-weigh t in
+    let w = columns (told-to-admit t) in
     let s = trade-to-start c in
-    lines-fit (sheet s) _ (count s) (kinds w) (shares w) (energy c) (imports w) (held c) (kinds-are t) (shares-are t) (owns c)
-    (imports-are t) (holds c) (ok s)
+    lines-fit (sheet s) _ (count s) (w .kinds) (w .shares) (energy c) (w .imports) (held c) (kinds-are t) (shares-are t) (owns c)
+    (imports-are t) (holds c) (ok s) (balanced _ (clear t .balance))
 
 write-lines-requires : tie.Need-write-lines-requires
 write-lines-requires c κs =
@@ -224,17 +198,19 @@ returns-2 c =
     let at-kinds2 = at-write-lines .before .before .before .before .before .before .before in
     let at-trade = at-kinds2 .before .before .before .before .before .before .before in
     let at-told = at-trade .before .before .before .before .before .before in
-    let at-weigh = at-told .before .before .before .before in
-    let at-kinds = at-weigh .before .before .before .before .before in
+    let at-admit = at-told .before .before in
+    let at-imports = at-admit .before .before .before .before .before in
+    let at-kinds = at-imports .before .before .before .before in
     let at-start = at-kinds .before .before .before .before .before in
     let o = clear at-told in
+    let w = columns at-admit in
     let t = at-trade .trade .ensures in
     let h = sheet at-start in
     let f =
-    figures-are h _ (count at-start) (kinds at-weigh) (shares at-weigh) (energy at-trade) (imports at-weigh) (held at-trade)
+    figures-are h _ (count at-start) (w .kinds) (w .shares) (energy at-trade) (w .imports) (held at-trade)
     (kinds-are at-told) (shares-are at-told) (owns at-trade) (imports-are at-told) (holds at-trade) in
     let m =
-    money-are h _ (count at-start) (kinds at-weigh) (shares at-weigh) (energy at-trade) (imports at-weigh) (held at-trade)
+    money-are h _ (count at-start) (w .kinds) (w .shares) (energy at-trade) (w .imports) (held at-trade)
     (kinds-are at-told) (shares-are at-told) (owns at-trade) (imports-are at-told) (holds at-trade) in
     let l = at-write-lines .write-lines .ensures in
     rw (fine at-told)
@@ -249,7 +225,7 @@ returns-2 c =
 pub settle-read-spec : {M : Type 1} → statement M
 settle-read-spec =
     tie.close
-    (tie.spec weigh-read-requires has-room-requires judge-requires (λ c. search needs) (λ c κs. search needs) returns
-    (λ c. search needs) array-share-prefix-commercial slice-aggregate-trade slice-aggregate-trade-2 (λ c. search needs)
+    (tie.spec (λ c κs. search needs) (λ c. search needs) (λ c κs. search needs) (λ c. search needs) (λ c. search needs)
+    (λ c. search needs) (λ c. search needs) returns (λ c. search needs) array-share-prefix-commercial slice-aggregate-trade slice-aggregate-trade-2 (λ c. search needs)
     trade-requires write-lines-requires
     (λ c. search needs) (λ c. search needs) (λ c. search needs) (λ c. search needs) returns-2)

@@ -1,17 +1,19 @@
 use borrow.Author.Needs.{needs}
 use native.Mathlib.Omega.{arith}
 use Prim.Native.Nat.{_≤_}
-use mathlib.Core.Bool.{Bool}
 use mathlib.Core.Path.{_≡_, ap, _∙_, sym}
 use lib.ListN.{length, take}
 use Rattle.sums.proofs.Fill.{front-fits, front-long}
-use Rattle.rows.specs.Limits.{mostPlants, mostContracts}
+use Rattle.rows.specs.Limits.{mostContracts}
 use Rattle.sheet.proofs.Accepted.{accepted-few}
 use Rattle.columns.specs.Columns.{columnsOf}
-use Rattle.hour.specs.Sheet.{Sheet}
+use Rattle.columns.proofs.Columns.{contracts-long, sound}
+use Rattle.hour.specs.Sheet.{Sheet, contracts}
+use Rattle.hour.specs.Sound.{Sound}
+use Rattle.ground.proofs.Rows.{front-is}
 use Rattle.deals.specs.Hour.{Rows}
 use Rattle.statement.specs.Hour.{hourGood}
-use Rattle.checking.proofs.Fronts.{sellers-are, buyers-are, kinds-are, prices-are, quantities-are, count-buyers, count-sellers, held-is, columns-fit, deals-are}
+use Rattle.checking.proofs.Fronts.{count-buyers, count-sellers, held-is, columns-fit, deals-are}
 use Rattle.checking.proofs.amounts.judge.Statement.{statement}
 use Rattle.checking.proofs.amounts.judge.Tie as tie
 
@@ -109,33 +111,43 @@ hour-follows-to-start c = quantities3-to-start (c .before)
 abbrev sheet : tie.Start → Sheet
 sheet c = columnsOf (c .args .bytes .now) (c .args .c)
 
+ok : (c : tie.Start) → Sound (sheet c)
+ok c = sound _ _ (c .pre .0)
+
+count : (c : tie.Start) → contracts (sheet c) ≡ c .args .c .contracts
+count c = contracts-long _ _
+
 few : (c : tie.Start) → c .args .c .contracts ≤ mostContracts
 few c = accepted-few _ _ (c .pre .0) .contracts
 
 -- the columns are the sheet's
 sellers : (c : tie.After-columns)
     → take (columns-to-start c .args .c .contracts) (c .columns .last .1 .1 .0) ≡ sheet (columns-to-start c) .sellers
-sellers c = sellers-are _ _ _ _ (few (columns-to-start c)) (c .columns .ensures .0)
+sellers c = let s = columns-to-start c in front-is _ _ _ _ (few s) (count s) (c .columns .ensures .0)
 
 buyers : (c : tie.After-columns)
     → take (columns-to-start c .args .c .contracts) (c .columns .last .1 .1 .1 .0)
     ≡ sheet (columns-to-start c) .deals .buyers
-buyers c = buyers-are _ _ _ _ (few (columns-to-start c)) (c .columns .ensures .1)
+buyers c =
+    let s = columns-to-start c in front-is _ _ _ _ (few s) (ok s .whole .buyers ∙ count s) (c .columns .ensures .1)
 
 kinds : (c : tie.After-columns)
     → take (columns-to-start c .args .c .contracts) (c .columns .last .1 .1 .1 .1 .0)
     ≡ sheet (columns-to-start c) .deals .kinds
-kinds c = kinds-are _ _ _ _ (few (columns-to-start c)) (c .columns .ensures .2)
+kinds c =
+    let s = columns-to-start c in front-is _ _ _ _ (few s) (ok s .whole .kinds ∙ count s) (c .columns .ensures .2)
 
 prices : (c : tie.After-columns)
     → take (columns-to-start c .args .c .contracts) (c .columns .last .1 .1 .1 .1 .1 .0)
     ≡ sheet (columns-to-start c) .deals .prices
-prices c = prices-are _ _ _ _ (few (columns-to-start c)) (c .columns .ensures .3)
+prices c =
+    let s = columns-to-start c in front-is _ _ _ _ (few s) (ok s .whole .prices ∙ count s) (c .columns .ensures .3)
 
 quantities : (c : tie.After-columns)
     → take (columns-to-start c .args .c .contracts) (c .columns .last .1 .1 .1 .1 .1 .1 .0)
     ≡ sheet (columns-to-start c) .deals .quantities
-quantities c = quantities-are _ _ _ _ (few (columns-to-start c)) (c .columns .ensures .4)
+quantities c =
+    let s = columns-to-start c in front-is _ _ _ _ (few s) (ok s .whole .quantities ∙ count s) (c .columns .ensures .4)
 
 columns-requires : tie.Need-columns-requires
 columns-requires c κs = (

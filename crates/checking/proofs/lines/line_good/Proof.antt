@@ -1,9 +1,11 @@
 use borrow.Author.Needs.{needs}
 use native.Mathlib.Omega.{arith}
+use Prim.Native.Nat.{min}
 use mathlib.Core.Path.{_≡_}
 use mir.Syntax.{w64}
 use mir.Val.{toZ, ofZ}
 use mir.ValLaws.{toZ-ofZ}
+use Rattle.rows.specs.Limits.{mostOffer}
 use Rattle.hour.specs.Lines.{moneyOf}
 use Rattle.hour.proofs.Money.{money-fits}
 use Rattle.statement.specs.Tests.{sameMoney}
@@ -22,8 +24,9 @@ paid c =
     let at-start = c .before .before .before .before in
     let a = at-start .args in
     let q = toZ-ofZ w64 (a .money) (at-start .fits .money) in
+    let same : min (a .price) mostOffer ≡ a .price = omega arith in
     let d : toZ w64 (ofZ w64 ((c .before) .owed .result)) ≡ moneyOf (a .c5) (a .c4) (a .price) =
-    rw ((c .before) .owed .ensures)
+    rw ((c .before) .owed .ensures, same)
     (toZ-ofZ w64 _ (money-fits (a .c5) (a .c4) (a .price) (omega arith) (omega arith) (omega arith))) in
     rw (q, d) at (c .same .ensures)
 

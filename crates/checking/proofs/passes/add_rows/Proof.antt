@@ -5,14 +5,14 @@ use native.Mathlib.Omega.{arith}
 use borrow.Author.Needs.{needs}
 use lib.ListN.{length}
 use Rattle.sums.specs.Lists.{at}
-use Rattle.checking.specs.Accounts.{rowsOf, AllSummed}
+use Rattle.checking.specs.Accounts.{rowsFrom, AllSummed}
 use Rattle.checking.proofs.Accounts.{all-unsummed, all-summed-more}
 use Rattle.checking.proofs.passes.add_rows.Statement.{statement}
 use Rattle.checking.proofs.passes.add_rows.Tie as tie
 
 abbrev Inv-loop : tie.InvT-loop
 Inv-loop buyers kinds prices quantities amounts demands seen all₀ i₀ all i =
-    (i ≤ length quantities) × AllSummed (rowsOf buyers kinds prices quantities) amounts seen i all
+    (i ≤ length quantities) × AllSummed (rowsFrom buyers kinds prices quantities) amounts seen i all
 
 abbrev μ-loop : tie.MeasureT-loop
 μ-loop buyers kinds prices quantities amounts demands seen all₀ i₀ all i = length quantities - i

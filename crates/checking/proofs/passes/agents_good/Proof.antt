@@ -6,14 +6,14 @@ use borrow.Author.Needs.{needs}
 use lib.ListN.{length}
 use Rattle.sums.specs.Lists.{at}
 use Rattle.statement.specs.Decide.{every}
-use Rattle.checking.specs.Accounts.{agentVerdict}
+use Rattle.checking.specs.Accounts.{retailerAt}
 use Rattle.checking.proofs.Loops.{every-none, every-step}
 use Rattle.checking.proofs.passes.agents_good.Statement.{statement}
 use Rattle.checking.proofs.passes.agents_good.Tie as tie
 
 abbrev Inv-loop : tie.InvT-loop
 Inv-loop demands seen sums fine ok₀ b₀ ok b =
-    (b ≤ length demands) × (ok ≡ every b (agentVerdict seen sums fine demands))
+    (b ≤ length demands) × (ok ≡ every b (retailerAt seen sums fine demands))
 
 abbrev μ-loop : tie.MeasureT-loop
 μ-loop demands seen sums fine ok₀ b₀ ok b = length demands - b

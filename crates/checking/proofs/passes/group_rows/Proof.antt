@@ -5,14 +5,14 @@ use native.Mathlib.Omega.{arith}
 use borrow.Author.Needs.{needs}
 use lib.ListN.{length}
 use Rattle.sums.specs.Lists.{at}
-use Rattle.checking.specs.Accounts.{rowsOf, AllFine}
+use Rattle.checking.specs.Accounts.{rowsFrom, AllFine}
 use Rattle.checking.proofs.Accounts.{all-fine-none, all-fine-more}
 use Rattle.checking.proofs.passes.group_rows.Statement.{statement}
 use Rattle.checking.proofs.passes.group_rows.Tie as tie
 
 abbrev Inv-loop : tie.InvT-loop
 Inv-loop buyers kinds prices quantities amounts demands seen sums all₀ i₀ all i =
-    (i ≤ length quantities) × AllFine (rowsOf buyers kinds prices quantities) amounts demands seen sums i all
+    (i ≤ length quantities) × AllFine (rowsFrom buyers kinds prices quantities) amounts demands seen sums i all
 
 abbrev μ-loop : tie.MeasureT-loop
 μ-loop buyers kinds prices quantities amounts demands seen sums all₀ i₀ all i = length quantities - i

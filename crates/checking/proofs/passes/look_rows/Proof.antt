@@ -4,14 +4,14 @@ use Prim.Native.Nat.{_≤_, _-_}
 use native.Mathlib.Omega.{arith}
 use borrow.Author.Needs.{needs}
 use lib.ListN.{length}
-use Rattle.checking.specs.Accounts.{rowsOf, AllSeen}
+use Rattle.checking.specs.Accounts.{rowsFrom, AllSeen}
 use Rattle.checking.proofs.Accounts.{all-unseen, all-seen-more}
 use Rattle.checking.proofs.passes.look_rows.Statement.{statement}
 use Rattle.checking.proofs.passes.look_rows.Tie as tie
 
 abbrev Inv-loop : tie.InvT-loop
 Inv-loop buyers kinds prices quantities amounts demands all₀ i₀ all i =
-    (i ≤ length quantities) × AllSeen (rowsOf buyers kinds prices quantities) amounts i all
+    (i ≤ length quantities) × AllSeen (rowsFrom buyers kinds prices quantities) amounts i all
 
 abbrev μ-loop : tie.MeasureT-loop
 μ-loop buyers kinds prices quantities amounts demands all₀ i₀ all i = length quantities - i

@@ -3,7 +3,6 @@ use native.Mathlib.Omega.{arith}
 use Prim.Native.Nat.{_≤_, _-_}
 use mathlib.Core.Bool.{Bool, _&&_}
 use mathlib.Core.Path.{_≡_, sym, ap₂, _∙_}
-use lib.ListN.{length}
 use Rattle.sums.specs.Lists.{at}
 use Rattle.statement.specs.Decide.{every}
 use Rattle.statement.specs.Tests.{orderTest}
@@ -12,11 +11,11 @@ use Rattle.checking.proofs.plants.in_order.Statement.{statement}
 use Rattle.checking.proofs.plants.in_order.Tie as tie
 
 abbrev Inv-loop : tie.InvT-loop
-Inv-loop offers available schedule dearest fine₀ i₀ fine i =
-    (i ≤ length offers) × (fine ≡ every i (λ k. orderTest dearest (at offers k) (at available k) (at schedule k)))
+Inv-loop offers available n schedule dearest fine₀ i₀ fine i =
+    (i ≤ n) × (fine ≡ every i (λ k. orderTest dearest (at offers k) (at available k) (at schedule k)))
 
 abbrev μ-loop : tie.MeasureT-loop
-μ-loop offers available schedule dearest fine₀ i₀ fine i = length offers - i
+μ-loop offers available n schedule dearest fine₀ i₀ fine i = n - i
 
 -- ways back: X-to-Y leads from the place X of the code to the earlier place Y
 abbrev placed-to-loop : tie.After-placed Inv-loop μ-loop → tie.At-loop Inv-loop μ-loop
@@ -30,8 +29,7 @@ loop-again c = (omega arith, ap₂ (λ (y z : Bool). y && z) (placed-to-loop c .
 
 returns : tie.Need-returns Inv-loop μ-loop
 returns c =
-    let at-start = c .before .before .before .before .before in
-    let e : (c .before) .loop .i ≡ length (at-start .args .offers .now) = omega arith in rw e at ((c .before) .loop .inv .1)
+    let e : (c .before) .loop .i ≡ (c .before .before .before) .args .n = omega arith in rw e at ((c .before) .loop .inv .1)
 
 pub in-order-spec : {M : Type 1} → statement M
 in-order-spec =

@@ -1,15 +1,16 @@
 use borrow.Author.Needs.{needs}
 use native.Mathlib.Omega.{arith}
-use Prim.Native.Nat.{_≤_, _-_, _+_, _*_}
+use Prim.Native.Nat.{_≤_, _-_, _+_}
 use mathlib.Core.Path.{_≡_, refl}
 use Rattle.sums.specs.Lists.{at, Filled}
 use Rattle.sums.proofs.Fill.{filled-none, filled-more}
+use Rattle.checking.specs.Parts.{shareAt}
 use Rattle.checking.proofs.shares.demands.Statement.{statement}
 use Rattle.checking.proofs.shares.demands.Tie as tie
 
 abbrev Inv-loop : tie.InvT-loop
 Inv-loop used figures n out₀ a₀ out a =
-    (a ≤ n) × Filled 0 out₀ out a (λ k. at used k + at figures (6 * k))
+    (a ≤ n) × Filled 0 out₀ out a (λ k. at used k + shareAt figures k)
 
 abbrev μ-loop : tie.MeasureT-loop
 μ-loop used figures n out₀ a₀ out a = n - a

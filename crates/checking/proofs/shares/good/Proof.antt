@@ -8,17 +8,19 @@ use Rattle.sums.specs.Lists.{at}
 use Rattle.sums.specs.Sums.{sum}
 use Rattle.sums.proofs.Sums.{sum-none, sum-step}
 use Rattle.rows.specs.Rows.{carriesLosses}
+use Rattle.hour.specs.Lines.{cellsPerAgent}
 use Rattle.statement.specs.Decide.{every}
 use Rattle.statement.specs.Tests.{shareTest}
 use Rattle.checking.specs.Passes.{room}
+use Rattle.checking.specs.Parts.{shareAt}
 use Rattle.checking.proofs.Loops.{every-none, every-step}
 use Rattle.checking.proofs.shares.good.Statement.{statement}
 use Rattle.checking.proofs.shares.good.Tie as tie
 
 abbrev Inv-loop : tie.InvT-loop
 Inv-loop kinds used n losses consumed figures fine₀ sum₀ a₀ fine s a =
-    (a ≤ n) × (fine ≡ every a (λ k. shareTest (carriesLosses (at kinds k)) losses (at used k) consumed (at figures (6 * k))))
-    × (s ≡ sum a (λ k. at figures (6 * k))) × (s ≤ room a)
+    (a ≤ n) × (fine ≡ every a (λ k. shareTest (carriesLosses (at kinds k)) losses (at used k) consumed (shareAt figures k)))
+    × (s ≡ sum a (shareAt figures)) × (s ≤ room a)
 
 abbrev μ-loop : tie.MeasureT-loop
 μ-loop kinds used n losses consumed figures fine₀ sum₀ a₀ fine s a = n - a
@@ -37,14 +39,14 @@ loop-holds : tie.Need-loop-holds Inv-loop μ-loop
 loop-holds c = (omega arith, sym (every-none _), sym (sum-none _), omega arith)
 
 add-sum : tie.Need-add-sum Inv-loop μ-loop
-add-sum c = omega (arith, c .wide .ensures, wide-to-shared-slice-known2 c .shared-slice-known2 .given (6 * wide-to-loop c .loop .a))
+add-sum c = omega (arith, c .wide .ensures, wide-to-shared-slice-known2 c .shared-slice-known2 .given (cellsPerAgent * wide-to-loop c .loop .a))
 
 loop-again : tie.Need-loop-again Inv-loop μ-loop
 loop-again c = (
   omega arith,
   ap₂ (λ (y z : Bool). y && z) (wide-to-loop c .loop .inv .1) ((c .before) .share-good .ensures) ∙ sym (every-step _ _),
-  omega (arith, c .wide .ensures, sum-step (wide-to-loop c .loop .a) (λ k. at (wide-to-start c .args .figures .now) (6 * k))),
-  omega (arith, c .wide .ensures, wide-to-shared-slice-known2 c .shared-slice-known2 .given (6 * wide-to-loop c .loop .a)),
+  omega (arith, c .wide .ensures, sum-step (wide-to-loop c .loop .a) (shareAt (wide-to-start c .args .figures .now))),
+  omega (arith, c .wide .ensures, wide-to-shared-slice-known2 c .shared-slice-known2 .given (cellsPerAgent * wide-to-loop c .loop .a)),
 )
 
 returns : tie.Need-returns Inv-loop μ-loop

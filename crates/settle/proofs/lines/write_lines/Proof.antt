@@ -1,13 +1,14 @@
 use borrow.Author.Needs.{needs}
 use native.Mathlib.Omega.{arith}
-use Prim.Native.Nat.{ℕ, _≤_, _+_, _-_, _*_}
-use mathlib.Core.Path.{_≡_, _∙_, ap₂}
+use Prim.Native.Nat.{ℕ, _≤_, _+_, _-_, _*_, min}
+use mathlib.Core.Path.{_≡_, _∙_, ap, ap₂}
 use lib.IntN.{pos}
 use lib.ListN.{length}
 use mir.Syntax.{w64}
 use mir.ValLaws.{toZ-ofZ}
 use Rattle.sums.specs.Lists.{Filled}
 use Rattle.sums.proofs.Fill.{filled-none, filled-more}
+use Rattle.rows.specs.Limits.{mostOffer}
 use Rattle.hour.specs.Lines.{moneyOf, cellsPerAgent}
 use Rattle.settle.specs.Parts.{lineCell, lineMoney}
 use Rattle.settle.proofs.OneLine.{line-more}
@@ -23,17 +24,17 @@ abbrev μ-loop : tie.MeasureT-loop
 μ-loop kinds shares own imports contracted n price figures₀ money₀ a₀ figures money a = n - a
 
 -- ways back: X-to-Y leads from the place X of the code to the earlier place Y
-abbrev bought-arg4-to-loop : tie.After-bought-arg4 Inv-loop μ-loop → tie.At-loop Inv-loop μ-loop
-bought-arg4-to-loop c = c .before .before .before .before .before
+abbrev bought-to-loop : tie.After-bought Inv-loop μ-loop → tie.At-loop Inv-loop μ-loop
+bought-to-loop c = c .before .before .before .before .before .before
 
-abbrev bought-arg4-to-start : tie.After-bought-arg4 Inv-loop μ-loop → tie.Start Inv-loop μ-loop
-bought-arg4-to-start c = bought-arg4-to-loop c .before .before
+abbrev bought-to-start : tie.After-bought Inv-loop μ-loop → tie.Start Inv-loop μ-loop
+bought-to-start c = bought-to-loop c .before .before
 
-abbrev sold-arg2-to-loop : tie.After-sold-arg2 Inv-loop μ-loop → tie.At-loop Inv-loop μ-loop
-sold-arg2-to-loop c = bought-arg4-to-loop (c .before .before .before)
+abbrev sold-to-bought : tie.After-sold Inv-loop μ-loop → tie.After-bought Inv-loop μ-loop
+sold-to-bought c = c .before .before .before .before
 
 abbrev write-line-arg5-to-loop : tie.After-write-line-arg5 Inv-loop μ-loop → tie.At-loop Inv-loop μ-loop
-write-line-arg5-to-loop c = sold-arg2-to-loop (c .before .before .before .before .before .before .before)
+write-line-arg5-to-loop c = bought-to-loop (sold-to-bought (c .before .before .before .before .before))
 
 abbrev owed-to-loop : tie.After-owed Inv-loop μ-loop → tie.At-loop Inv-loop μ-loop
 owed-to-loop c = write-line-arg5-to-loop (c .before .before .before .before)
@@ -44,8 +45,12 @@ owed-to-start c = owed-to-loop c .before .before
 loop-holds : tie.Need-loop-holds Inv-loop μ-loop
 loop-holds c = (search needs, filled-none 0 _ _, filled-none (pos 0) _ _)
 
-bought-requires : tie.Need-bought-requires Inv-loop μ-loop
-bought-requires c κs = bought-arg4-to-start c .pre .1 (bought-arg4-to-loop c .loop .a) (omega arith)
+-- what is bought fits its cell
+cast-buys : tie.Need-cast-buys Inv-loop μ-loop
+cast-buys c =
+    record {
+      fits = omega (arith, c .bought .ensures, bought-to-start c .pre .1 (bought-to-loop c .loop .a) (omega arith));
+    }
 
 write-line-requires : tie.Need-write-line-requires Inv-loop μ-loop
 write-line-requires c κs = omega (arith, write-line-arg5-to-loop c .loop .inv .1 .long)
@@ -68,13 +73,15 @@ loop-again c =
     let at-bought = at-sold .before .before .before .before in
     let l = owed-to-loop c .loop in
     let m = c .owed in
+    let price = owed-to-start c .args .price in
+    let same : min price mostOffer ≡ price = omega (arith, owed-to-start c .pre .0 .3) in
     let b = at-bought .bought .ensures in
     let s = at-sold .sold .ensures in (
       under c,
       rw (at-write-line .write-line .ensures, b, s) (line-more _ _ _ _ _ _ _ (l .a) (room c) (l .figures) (l .inv .1)),
       filled-more (pos 0) _ (l .money) (l .a) _ _ (slice-set-from-m c)
           (toZ-ofZ w64 (m .result) (record { sfits = m .ok }) ∙ m .ensures
-          ∙ ap₂ (λ (x y : ℕ). moneyOf x y (owed-to-start c .args .price)) s b)
+          ∙ ap (λ (p : ℕ). moneyOf (at-sold .sold .result) (at-bought .bought .result) p) same ∙ ap₂ (λ (x y : ℕ). moneyOf x y price) s b)
           (l .inv .2),
     )
 
@@ -95,7 +102,7 @@ write-lines-spec =
     tie.close
     (tie.spec Inv-loop μ-loop loop-holds (λ c. search needs) (λ c. search needs) (λ c. search needs)
     (λ c. search needs) (λ c. search needs) (λ c. search needs) (λ c. search needs) (λ c. search needs)
-    bought-requires (λ c. search needs) (λ c. search needs) (λ c. search needs) (λ c. search needs)
+    (λ c κs. search needs) cast-buys (λ c. search needs) (λ c. search needs) (λ c. search needs) (λ c. search needs)
     (λ c. search needs) (λ c. search needs) (λ c κs. search needs) (λ c. search needs) (λ c. search needs)
     (λ c. search needs) (λ c. search needs) (λ c. search needs) (λ c. search needs) (λ c. search needs)
     (λ c. search needs) (λ c. search needs) write-line-requires (λ c κs. search needs) (λ c. search needs)

@@ -1,8 +1,8 @@
 use borrow.Author.Needs.{needs}
 use native.Mathlib.Omega.{arith}
 use mathlib.Core.Path.{_∙_, sym}
-use Rattle.checking.proofs.lines.bought.Statement.{statement}
-use Rattle.checking.proofs.lines.bought.Tie as tie
+use Rattle.ground.proofs.line.bought.Statement.{statement}
+use Rattle.ground.proofs.line.bought.Tie as tie
 
 -- ways back: X-to-Y leads from the place X of the code to the earlier place Y
 abbrev wide3-to-else1 : tie.After-wide3 → tie.Else1

@@ -1,7 +1,8 @@
 use borrow.Author.Needs.{needs}
+use native.Mathlib.Omega.{arith}
 use mathlib.Core.Path.{_∙_, sym}
-use Rattle.settle.proofs.lines.bought.Statement.{statement}
-use Rattle.settle.proofs.lines.bought.Tie as tie
+use Rattle.ground.proofs.line.sold.Statement.{statement}
+use Rattle.ground.proofs.line.sold.Tie as tie
 
 returns : tie.Need-returns
 returns c = simp (sym ((c .before .before) .carries-losses .ensures) ∙ (c .before) .if1 .taken, c .less .ensures)
@@ -9,6 +10,7 @@ returns c = simp (sym ((c .before .before) .carries-losses .ensures) ∙ (c .bef
 returns-2 : tie.Need-returns-2
 returns-2 c = simp (sym ((c .before .before) .carries-losses .ensures) ∙ (c .before) .if1 .left, c .less2 .ensures)
 
-pub bought-spec : {M : Type 1} → statement M
-bought-spec = tie.close
-    (tie.spec (λ c κs. search needs) (λ c κs. search needs) (λ c κs. search needs) (λ c. search needs) returns returns-2)
+pub sold-spec : {M : Type 1} → statement M
+sold-spec =
+    tie.close
+    (tie.spec (λ c κs. search needs) (λ c κs. search needs) (λ c κs. search needs) returns returns-2)
