@@ -4,7 +4,7 @@ use std::fs;
 use std::path::{Path, PathBuf};
 use std::process::Command;
 
-const NAMES: [&str; 6] = ["worked-hour", "must-run", "march", "empty-hour", "reasons", "ties"];
+const NAMES: [&str; 7] = ["worked-hour", "must-run", "march", "empty-hour", "reasons", "ties", "small-generator"];
 
 fn repository() -> PathBuf {
     Path::new(env!("CARGO_MANIFEST_DIR")).join("..")
@@ -104,7 +104,7 @@ fn the_c_example() {
         .status()
         .expect("cc, the C compiler");
     assert!(compiled.success());
-    for (name, status) in NAMES.into_iter().zip([0, 0, 1, 0, 0]) {
+    for (name, status) in NAMES.into_iter().zip([0, 0, 1, 0, 0, 0, 0]) {
         let run = Command::new(&program).arg(repository().join(format!("examples/{name}.sheet"))).output().unwrap();
         let printed = String::from_utf8(run.stdout).unwrap();
         let own = printed.strip_prefix(&text(&format!("examples/{name}.page"))).expect(name);
