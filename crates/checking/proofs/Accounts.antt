@@ -1,5 +1,5 @@
 -- One row more in each pass over the rows of all retailers: its buyer's account changes, the others stay. Assumes nothing.
-use Prim.Native.Nat.{ℕ, zero, suc, _+_, _-_, _*_, _≤_, _<_}
+use Prim.Native.Nat.{ℕ, zero, suc, _+_, _-_, _≤_, _<_}
 use native.Mathlib.Decide.{ℕ-discrete}
 use native.Mathlib.Omega.{arith}
 use mathlib.Core.Bool.{Bool, true, false, _&&_, and-true}
@@ -7,16 +7,16 @@ use mathlib.Core.List.{List}
 use mathlib.Core.Path.{_≡_, refl, ap, ap₂, _∙_, sym}
 use lib.ListN.{length, set, getD, replicate, length-set, length-replicate, getD-replicate}
 use lib.Seq.{getD-set-same, getD-set-other}
-use Rattle.sums.specs.Sums.{sum, peak, pick}
-use Rattle.sums.specs.Lists.{at, listTo}
+use Rattle.sums.specs.Sums.{pick}
+use Rattle.sums.specs.Lists.{at}
 use Rattle.sums.proofs.Lists.{getD-listTo}
 use Rattle.sums.proofs.Picks.{pick-eq, pick-ne}
 use Rattle.deals.specs.Deals.{kind, price, quantity, demanded}
 use Rattle.deals.specs.Hour.{Rows}
 use Rattle.statement.specs.Quick.{shapeGood}
 use Rattle.statement.specs.Hour.{onlyOf, emptied}
-use Rattle.checking.specs.Passes.{above, room, Looked, SeenTo, Added, SummedTo}
-use lib.Dec.{ltb, leb, eqb}
+use Rattle.checking.specs.Passes.{above, Looked, Added}
+use lib.Dec.{ltb, eqb}
 use Rattle.deals.specs.Deals.{fixed, conditional, count}
 use Rattle.sums.proofs.Picks.{pick-zero}
 use Rattle.sums.proofs.Lists.{length-listTo}

@@ -6,7 +6,7 @@ use mathlib.Core.List.{List}
 use mathlib.Core.Path.{_≡_, ap, ap₂, _∙_, sym}
 use lib.Dec.{ltb, eqb}
 use lib.ListN.{length}
-use Rattle.sums.specs.Sums.{peak, pick, keyed}
+use Rattle.sums.specs.Sums.{pick, keyed}
 use Rattle.sums.specs.Lists.{at}
 use Rattle.sums.proofs.Sums.{peak-eq}
 use Rattle.sums.proofs.Picks.{pick-both}
@@ -22,7 +22,6 @@ use Rattle.hour.specs.Sound.{Sound}
 use Rattle.statement.specs.Decide.{every}
 use Rattle.statement.specs.Tests.{withinTest, orderTest}
 use Rattle.ground.specs.Ground.{Fleet, Listed}
-use Rattle.checking.specs.Passes.{room}
 use Rattle.checking.specs.Accounts.{rowsFrom, Columns}
 use Rattle.checking.specs.Parts.{Spacious, CountableWide, Totalled, RanTo, scheduleTest}
 use Rattle.checking.specs.declared.plants.Run.{Run}

@@ -1,16 +1,14 @@
 -- One row more in each pass, and what the passes find together. Assumes nothing.
-use Prim.Native.Nat.{ℕ, suc, _+_, _-_, _*_, _/_, _%_, _≤_, _<_, max, zero-le}
-use native.Mathlib.Nat.{div-add-mod', mod-lt, mul-le-mul-right}
+use Prim.Native.Nat.{ℕ, _+_, _-_, _*_, _≤_, max}
 use native.Mathlib.Numerals.{add-one}
 use native.Mathlib.Omega.{arith}
-use mathlib.Core.Bool.{Bool, true, false, _&&_, _||_}
-use mathlib.Core.List.{List}
+use mathlib.Core.Bool.{Bool, true, _&&_}
 use mathlib.Core.Path.{_≡_, refl, ap, _∙_, sym}
 use lib.Dec.{ltb, eqb}
-use Rattle.sums.specs.Sums.{sum, peak, pick}
+use Rattle.sums.specs.Sums.{peak, pick}
 use Rattle.sums.proofs.Sums.{sum-none, sum-step, peak-step}
 use Rattle.sums.proofs.Picks.{pick-le}
-use Rattle.deals.specs.Deals.{Deals, count, kind, price, quantity, fixed, conditional, demanded}
+use Rattle.deals.specs.Deals.{Deals, kind, price, quantity, fixed, conditional, demanded}
 use Rattle.statement.specs.Decide.{every}
 use Rattle.statement.specs.Quick.{shapeGood}
 use Rattle.checking.specs.Passes.{above, room, Looked, SeenTo, Added, SummedTo}

@@ -5,10 +5,10 @@ use native.Mathlib.Decide.{ℕ-discrete}
 use native.Mathlib.Omega.{arith}
 use mathlib.Core.Bool.{Bool, true, false, _&&_, _||_}
 use mathlib.Core.Logic.{_⊎_, inl, inr, ⊎-elim}
-use mathlib.Core.Path.{_≡_, refl, ap, _∙_, sym}
+use mathlib.Core.Path.{_≡_, refl, ap, _∙_}
 use lib.Dec.{ltb, eqb}
-use borrow.Author.Tests.{lt-ltb, le-ltb, eq-eqb, ne-eqb, ltb-true, eqb-true}
-use Rattle.sums.proofs.Tests.{and-left, and-right, and-both, and-early, or-cases}
+use borrow.Author.Tests.{lt-ltb, eq-eqb, ne-eqb, ltb-true, eqb-true}
+use Rattle.sums.proofs.Tests.{and-left, and-right, and-both, or-cases}
 use Rattle.sums.proofs.Cut.{cut}
 use Rattle.statement.specs.Follows.{Near}
 use Rattle.statement.specs.Decide.{isNear}

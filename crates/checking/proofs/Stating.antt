@@ -22,7 +22,8 @@ use Rattle.hour.specs.Sound.{Sound}
 use Rattle.hour.specs.Balance.{consumption, consumed, ownImport, entering, losses, injected, smallExports, dispatchDemandBy}
 use Rattle.hour.specs.Lines.{ownBy, contractedBy}
 use Rattle.hour.specs.Answer.{Lent, shareIn, scheduleIn}
-use Rattle.hour.proofs.Bounds.{consumption-le, injected-le, imports-within, injects-within, imported-le, exported-le, leaving-le, entering-le, consumed-most}
+use Rattle.hour.proofs.Bounds.{consumption-le, injected-le, imported-le, exported-le, leaving-le, entering-le}
+use Rattle.hour.proofs.Bounds.{imports-within, injects-within, consumed-most}
 use Rattle.hour.proofs.Demand.{small-metered}
 use Rattle.hour.proofs.Balance.{contracted-by-both, own-by-all}
 use Rattle.balance.specs.Balances.{zeros}

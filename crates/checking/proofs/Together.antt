@@ -1,10 +1,10 @@
 -- What the three passes find, put together, is the decision. Assumes nothing.
-use Prim.Native.Nat.{ℕ, _+_, _-_, _≤_, _<_, min}
+use Prim.Native.Nat.{ℕ, _+_, _-_, _<_, min}
 use native.Mathlib.Omega.{arith}
 use mathlib.Core.Bool.{Bool, _&&_, _||_}
-use mathlib.Core.Path.{_≡_, refl, ap, ap₂, _∙_, sym}
+use mathlib.Core.Path.{_≡_, ap, ap₂, _∙_, sym}
 use lib.Dec.{ltb, leb, eqb}
-use Rattle.sums.specs.Sums.{sum, peak, pick}
+use Rattle.sums.specs.Sums.{pick}
 use Rattle.sums.specs.Lists.{total}
 use Rattle.sums.proofs.Sums.{sum-add}
 use Rattle.deals.specs.Deals.{Deals, count, kind, price, quantity, fixed, conditional, demanded, cheaperOf, groupOf}

@@ -1,14 +1,12 @@
 -- What each pass over a retailer's rows has found after its first n rows. Assumes nothing.
-use Prim.Native.Nat.{ℕ, _+_, _-_, _*_, _≤_, max}
-use mathlib.Core.Bool.{Bool, _&&_}
-use mathlib.Core.List.{List}
+use Prim.Native.Nat.{ℕ, _+_, _-_, _*_, max}
+use mathlib.Core.Bool.{_&&_}
 use mathlib.Core.Path.{_≡_}
-use lib.ListN.{length}
 use lib.Dec.{ltb, eqb}
 use Rattle.sums.specs.Sums.{sum, peak, pick}
-use Rattle.deals.specs.Deals.{Deals, count, kind, price, quantity, fixed, conditional, demanded}
+use Rattle.deals.specs.Deals.{Deals, kind, price, quantity, fixed, conditional, demanded}
 use Rattle.statement.specs.Decide.{every}
-use Rattle.statement.specs.Quick.{shapeGood, groupGood}
+use Rattle.statement.specs.Quick.{shapeGood}
 use Rattle.checking.specs.declared.passes.Seen.{Seen}
 use Rattle.checking.specs.declared.passes.Summed.{Summed}
 

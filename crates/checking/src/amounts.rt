@@ -29,7 +29,8 @@ fn columns(
         × (Filled 0 (now (buyers .entry)) (now (buyers .exit)) (c .contracts) (at (columnsOf (now (bytes .entry)) c .deals .buyers)))
         × (Filled 0 (now (kinds .entry)) (now (kinds .exit)) (c .contracts) (at (columnsOf (now (bytes .entry)) c .deals .kinds)))
         × (Filled 0 (now (prices .entry)) (now (prices .exit)) (c .contracts) (at (columnsOf (now (bytes .entry)) c .deals .prices)))
-        × (Filled 0 (now (quantities .entry)) (now (quantities .exit)) (c .contracts) (at (columnsOf (now (bytes .entry)) c .deals .quantities))) ⌝ }
+        × (Filled 0 (now (quantities .entry)) (now (quantities .exit)) (c .contracts)
+        (at (columnsOf (now (bytes .entry)) c .deals .quantities))) ⌝ }
 {
     let section = sheet::asking::section_of(bytes, c, Contract::SECTION);
     let n = c.contracts;

@@ -4,8 +4,8 @@ use crate::numbers;
 use rows::Agent;
 use rows::Contract;
 ghost use mathlib.Core.Path.{_≡_};
-ghost use mathlib.Core.Bool.{cond, _&&_, _||_};
-ghost use Prim.Native.Nat.{ℕ, _+_, _-_, _*_, _≤_, _<_, min, max};
+ghost use mathlib.Core.Bool.{cond, _&&_};
+ghost use Prim.Native.Nat.{_+_, _-_, _≤_, _<_, max};
 ghost use lib.ListN.{length};
 ghost use lib.Dec.{ltb, leb, eqb};
 ghost use Rattle.sums.specs.Sums.{pick};
@@ -210,7 +210,7 @@ fn group_good(left: u32, g: u64, c: u64, t: u64, k: u32, p: u32, q: u32, x: u32)
 
 // What the passes find, put together, where `left` is what kinds 1 and 2 leave of the demand d.
 fn verdict(v: Seen, z: Summed, groups: bool, left: u32, d: u32) -> bool
-    ensures { λ r. ⌜ r ≡ (v .good && ((eqb (v .reach) 0 || ltb (z .ahead - z .largest) d) && ((eqb (v .depth) 0 || leb d (z .under)) && (groups && eqb (v .given) (min left (v .asked)))))) ⌝ }
+    ensures { λ r. ⌜ r ≡ retailerTest v z groups left d ⌝ }
 {
     let demand = sums::wide(d);
     let largest = sums::wide(z.largest);
@@ -232,7 +232,9 @@ fn look_rows(
     demands: &[u32],
 ) -> [Seen; Agent::MOST]
     requires { ⌜ Columns (now buyers) (now kinds) (now prices) (now quantities) (now amounts) (now demands) ⌝ }
-    ensures { λ r. ⌜ AllSeen (rowsFrom (now (buyers .entry)) (now (kinds .entry)) (now (prices .entry)) (now (quantities .entry))) (now (amounts .entry)) (length (now (quantities .entry))) r ⌝ }
+    ensures { λ r. ⌜ AllSeen
+        (rowsFrom (now (buyers .entry)) (now (kinds .entry)) (now (prices .entry)) (now (quantities .entry)))
+        (now (amounts .entry)) (length (now (quantities .entry))) r ⌝ }
 {
     let mut all = [Seen {
         good: true,
@@ -276,7 +278,9 @@ fn add_rows(
     seen: [Seen; Agent::MOST],
 ) -> [Summed; Agent::MOST]
     requires { ⌜ Columns (now buyers) (now kinds) (now prices) (now quantities) (now amounts) (now demands) × (length seen ≡ mostAgents) ⌝ }
-    ensures { λ r. ⌜ AllSummed (rowsFrom (now (buyers .entry)) (now (kinds .entry)) (now (prices .entry)) (now (quantities .entry))) (now (amounts .entry)) seen (length (now (quantities .entry))) r ⌝ }
+    ensures { λ r. ⌜ AllSummed
+        (rowsFrom (now (buyers .entry)) (now (kinds .entry)) (now (prices .entry)) (now (quantities .entry)))
+        (now (amounts .entry)) seen (length (now (quantities .entry))) r ⌝ }
 {
     let mut all = [Summed {
         ahead: 0,
@@ -315,8 +319,12 @@ fn group_rows(
     seen: [Seen; Agent::MOST],
     sums: [Summed; Agent::MOST],
 ) -> [bool; Agent::MOST]
-    requires { ⌜ Columns (now buyers) (now kinds) (now prices) (now quantities) (now amounts) (now demands) × (length seen ≡ mostAgents) × AllSummed (rowsFrom (now buyers) (now kinds) (now prices) (now quantities)) (now amounts) seen (length (now quantities)) sums ⌝ }
-    ensures { λ r. ⌜ AllFine (rowsFrom (now (buyers .entry)) (now (kinds .entry)) (now (prices .entry)) (now (quantities .entry))) (now (amounts .entry)) (now (demands .entry)) seen sums (length (now (quantities .entry))) r ⌝ }
+    requires { ⌜ Columns (now buyers) (now kinds) (now prices) (now quantities) (now amounts) (now demands)
+        × (length seen ≡ mostAgents)
+        × AllSummed (rowsFrom (now buyers) (now kinds) (now prices) (now quantities)) (now amounts) seen (length (now quantities)) sums ⌝ }
+    ensures { λ r. ⌜ AllFine
+        (rowsFrom (now (buyers .entry)) (now (kinds .entry)) (now (prices .entry)) (now (quantities .entry)))
+        (now (amounts .entry)) (now (demands .entry)) seen sums (length (now (quantities .entry))) r ⌝ }
 {
     let mut all = [true; Agent::MOST];
     let mut i = 0;
@@ -347,7 +355,8 @@ fn agents_good(
     fine: [bool; Agent::MOST],
     demands: &[u32],
 ) -> bool
-    requires { ⌜ (length (now demands) ≤ mostAgents) × (length seen ≡ mostAgents) × (length sums ≡ mostAgents) × (length fine ≡ mostAgents) ⌝ }
+    requires { ⌜ (length (now demands) ≤ mostAgents) × (length seen ≡ mostAgents) × (length sums ≡ mostAgents)
+        × (length fine ≡ mostAgents) ⌝ }
     ensures { λ r. ⌜ r ≡ every (length (now (demands .entry))) (retailerAt seen sums fine (now (demands .entry))) ⌝ }
 {
     let mut ok = true;
@@ -373,7 +382,9 @@ pub(crate) fn hour_follows(
     demands: &[u32],
 ) -> bool
     requires { ⌜ Columns (now buyers) (now kinds) (now prices) (now quantities) (now amounts) (now demands) ⌝ }
-    ensures { λ r. ⌜ r ≡ hourGood (rowsFrom (now (buyers .entry)) (now (kinds .entry)) (now (prices .entry)) (now (quantities .entry))) (now (demands .entry)) (now (amounts .entry)) ⌝ }
+    ensures { λ r. ⌜ r ≡ hourGood
+        (rowsFrom (now (buyers .entry)) (now (kinds .entry)) (now (prices .entry)) (now (quantities .entry)))
+        (now (demands .entry)) (now (amounts .entry)) ⌝ }
 {
     let seen = look_rows(buyers, kinds, prices, quantities, amounts, demands);
     let sums = add_rows(buyers, kinds, prices, quantities, amounts, demands, seen);

@@ -3,14 +3,9 @@
 use Prim.Native.Nat.{ℕ, _+_, _-_}
 use mathlib.Core.Bool.{cond}
 use mathlib.Core.List.{List}
-use lib.IntN.{ℤ}
 use Rattle.sums.specs.Lists.{at, Filled}
 use Rattle.rows.specs.Rows.{carriesLosses}
 use Rattle.hour.specs.Sheet.{Sheet}
-use Rattle.hour.specs.Answer.{Lent}
-
-abbrev pub lists : List ℕ → List ℤ → List ℕ → List ℕ → Lent
-lists f m s a = record { figures = f; money = m; schedule = s; amounts = a }
 
 -- the columns of a sheet's plants, a cell a plant
 pub record Fleet : Type 0 where

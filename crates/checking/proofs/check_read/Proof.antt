@@ -1,6 +1,5 @@
--- The refusals of the sheet are told as they come; where there is none, what was weighed is the sheet's, and the points are all that is left.
+-- A refusal of the sheet is told as it comes; where there is none, what was weighed is the sheet's, and the points are all that is left.
 use borrow.Author.Needs.{needs}
-use native.Mathlib.Omega.{arith}
 use Prim.Native.Nat.{_≤_}
 use mathlib.Core.Path.{_≡_, _∙_, sym}
 use Rattle.refusals.specs.declared.Verdict.{Verdict}
@@ -85,7 +84,8 @@ points-requires c κs =
       (
         o .room,
         weighs (sheet s) _ (agents-long _ _) _ (columns (told-to-admit t)) _ (o .columns) (o .losses) _ _
-            ((i .before .before .before .before) .differences .ensures) ((c .before .before .before .before .before) .differences2 .ensures),
+            ((i .before .before .before .before) .differences .ensures)
+            ((c .before .before .before .before .before) .differences2 .ensures),
       ),
     )
 

@@ -1,15 +1,14 @@
 use borrow.Author.Needs.{needs}
 use native.Mathlib.Omega.{arith}
-use Prim.Native.Nat.{ℕ, _+_, _≤_, _<_}
-use mathlib.Core.Path.{_≡_, refl, ap, _∙_, sym}
-use lib.ListN.{length}
+use Prim.Native.Nat.{ℕ, _≤_}
+use mathlib.Core.Path.{_≡_, ap, _∙_, sym}
 use Rattle.sums.specs.Sums.{sum}
 use Rattle.sums.specs.Lists.{at}
-use Rattle.sums.proofs.Fill.{filled-count, front-long}
+use Rattle.sums.proofs.Fill.{filled-count}
 use Rattle.rows.specs.Limits.{mostAgents}
 use Rattle.sheet.proofs.Accepted.{accepted-few}
 use Rattle.columns.specs.Columns.{columnsOf}
-use Rattle.columns.proofs.Columns.{agents-long, plants-long, contracts-long, sound}
+use Rattle.columns.proofs.Columns.{agents-long, sound}
 use Rattle.hour.specs.Sheet.{Sheet, agents}
 use Rattle.hour.specs.Sound.{Sound}
 use Rattle.hour.specs.Answer.{Lent}

@@ -1,11 +1,12 @@
 use borrow.Author.Needs.{needs}
 use native.Mathlib.Omega.{arith}
-use Prim.Native.Nat.{ℕ, _+_, _≤_, _<_}
-use mathlib.Core.Path.{_≡_, refl, ap, _∙_, sym}
+use Prim.Native.Nat.{ℕ, _≤_}
+use mathlib.Core.Path.{_≡_, ap, _∙_, sym}
 use lib.ListN.{length}
+use lib.Seq.{length-take-le}
 use Rattle.sums.specs.Sums.{sum}
 use Rattle.sums.specs.Lists.{at}
-use Rattle.sums.proofs.Fill.{filled-count, front-long}
+use Rattle.sums.proofs.Fill.{filled-count}
 use Rattle.rows.specs.Limits.{mostAgents}
 use Rattle.sheet.proofs.Accepted.{accepted-few}
 use Rattle.columns.specs.Columns.{columnsOf}
@@ -20,7 +21,9 @@ use borrow.Author.Tests.{eq-eqb, ne-eqb, not-true, not-false}
 use Rattle.hour.specs.Balance.{dispatchDemandBy}
 use Rattle.statement.specs.Points.{demandIn}
 use Rattle.statement.specs.Tests.{scheduleGood, priceGood, amountsGood, linesGood}
-use Rattle.checking.proofs.Stating.{retailers-fit, generators-fit, smalls-fit, target-is, addable, none-added, schedule-are, price-are, price-fits, amounts-are, lines-are, trades-22, trades-23, trades-24, trades-25, trades-fine}
+use Rattle.checking.proofs.Stating.{retailers-fit, generators-fit, smalls-fit, target-is, addable, none-added}
+use Rattle.checking.proofs.Stating.{schedule-are, price-are, price-fits, amounts-are, lines-are}
+use Rattle.checking.proofs.Stating.{trades-22, trades-23, trades-24, trades-25, trades-fine}
 use Rattle.checking.proofs.trades.Statement.{statement}
 use Rattle.checking.proofs.trades.Tie as tie
 
@@ -327,24 +330,16 @@ array-share-prefix-demands c = long (else2-to-start c)
 
 slice-aggregate-judge-2 : tie.Need-slice-aggregate-judge-2
 slice-aggregate-judge-2 c =
-    sym (front-long (demands3-to-start c .args .t4) (demands3-to-start c .args .t4) _
-    (at (demands3-to-start c .args .t4)) (record { done = λ k m. refl; kept = λ k m. refl; long = refl })
-    (long (demands3-to-start c)))
+    sym (length-take-le _ (demands3-to-start c .args .t4) (long (demands3-to-start c)))
 
 judge-requires-2 : tie.Need-judge-requires-2
 judge-requires-2 c κs =
-    let n =
-    front-long (held-to-start c .args .t4) (held-to-start c .args .t4) _ (at (held-to-start c .args .t4)) (record { done = λ k m. refl; kept = λ k m. refl; long = refl }) (long (held-to-start c)) in (
-      held-to-start c .pre .0,
+    let s = held-to-start c in (
+      s .pre .0,
       (
-        omega (
-          arith,
-          contracts-long (held-to-start c .args .bytes .now) (held-to-start c .args .c),
-          held-to-start c .pre .1 .0 .amounts,
-        ),
-        n,
-        none-added (sheet (held-to-start c)) (ok (held-to-start c)) (lists (held-to-start c)) _ _ _ _
-            (held-to-start c .pre .1 .1),
+        omega (arith, contracts-long (s .args .bytes .now) (s .args .c), s .pre .1 .0 .amounts),
+        length-take-le _ (s .args .t4) (long s),
+        none-added (sheet s) (ok s) (lists s) _ _ _ _ (s .pre .1 .1),
       ),
     )
 

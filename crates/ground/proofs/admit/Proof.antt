@@ -1,12 +1,10 @@
 -- A refusal of the balance is the hour's; behind it the verdict is the hour's by what the plants offer and how long the lists are.
 use borrow.Author.Needs.{needs}
-use native.Mathlib.Omega.{arith}
 use mathlib.Core.Path.{_≡_, _∙_, sym}
 use Rattle.sheet.proofs.Accepted.{accepted-few}
 use Rattle.columns.specs.Columns.{columnsOf}
 use Rattle.hour.specs.Sheet.{Sheet}
 use Rattle.hour.specs.Answer.{Lent, hourVerdict}
-use Rattle.ground.specs.Ground.{lists}
 use Rattle.ground.proofs.Admitted.{refused-weighing, verdict-is, fine-weighing, late-weighing}
 use Rattle.ground.proofs.admit.Statement.{statement}
 use Rattle.ground.proofs.admit.Tie as tie
@@ -31,7 +29,9 @@ abbrev late-to-start : tie.After-late → tie.Start
 late-to-start c = weigh-to-start (late-to-weigh c)
 
 abbrev lent : tie.Start → Lent
-lent c = let a = c .args in lists (a .figures .now) (a .money .now) (a .schedule .now) (a .amounts .now)
+lent c =
+    let a = c .args in
+    record { figures = a .figures .now; money = a .money .now; schedule = a .schedule .now; amounts = a .amounts .now }
 
 abbrev sheet : tie.Start → Sheet
 sheet c = columnsOf (c .args .bytes .now) (c .args .c)

@@ -226,6 +226,7 @@ pub settle-read-spec : {M : Type 1} → statement M
 settle-read-spec =
     tie.close
     (tie.spec (λ c κs. search needs) (λ c. search needs) (λ c κs. search needs) (λ c. search needs) (λ c. search needs)
-    (λ c. search needs) (λ c. search needs) returns (λ c. search needs) array-share-prefix-commercial slice-aggregate-trade slice-aggregate-trade-2 (λ c. search needs)
+    (λ c. search needs) (λ c. search needs) returns (λ c. search needs) array-share-prefix-commercial
+    slice-aggregate-trade slice-aggregate-trade-2 (λ c. search needs)
     trade-requires write-lines-requires
     (λ c. search needs) (λ c. search needs) (λ c. search needs) (λ c. search needs) returns-2)

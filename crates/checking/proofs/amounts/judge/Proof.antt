@@ -1,8 +1,7 @@
 use borrow.Author.Needs.{needs}
-use native.Mathlib.Omega.{arith}
 use Prim.Native.Nat.{_≤_}
 use mathlib.Core.Path.{_≡_, ap, _∙_, sym}
-use lib.ListN.{length, take}
+use lib.ListN.{take}
 use Rattle.sums.proofs.Fill.{front-fits, front-long}
 use Rattle.rows.specs.Limits.{mostContracts}
 use Rattle.sheet.proofs.Accepted.{accepted-few}

@@ -1,10 +1,10 @@
-use mathlib.Core.Path.{_≡_, refl, sym, ap, ap₂, _∙_}
-use mathlib.Core.Bool.{Bool, _&&_}
-use Prim.Native.Nat.{_≤_, _-_}
+use mathlib.Core.Path.{_≡_, refl}
+use Prim.Native.Nat.{_≤_, _<_, _-_}
 use native.Mathlib.Omega.{arith}
 use borrow.Author.Needs.{needs}
 use lib.ListN.{length}
 use Rattle.sums.specs.Lists.{at}
+use Rattle.rows.specs.Limits.{mostAgents}
 use Rattle.checking.specs.Accounts.{rowsFrom, AllSummed}
 use Rattle.checking.proofs.Accounts.{all-unsummed, all-summed-more}
 use Rattle.checking.proofs.passes.add_rows.Statement.{statement}
@@ -25,23 +25,11 @@ abbrev shared-slice-known7-to-start : tie.After-shared-slice-known7 Inv-loop μ-
 shared-slice-known7-to-start c =
     shared-slice-known2-to-start (c .before .before .before .before .before .before .before)
 
-abbrev v-to-loop : tie.After-v Inv-loop μ-loop → tie.At-loop Inv-loop μ-loop
-v-to-loop c = c .before .before .before
+abbrev known11-to-known7 : tie.After-shared-slice-known11 Inv-loop μ-loop → tie.After-shared-slice-known7 Inv-loop μ-loop
+known11-to-known7 c = c .before .before .before .before .before .before
 
-abbrev v-to-start : tie.After-v Inv-loop μ-loop → tie.Start Inv-loop μ-loop
-v-to-start c = shared-slice-known7-to-start (c .before)
-
-abbrev shared-slice-known11-to-loop : tie.After-shared-slice-known11 Inv-loop μ-loop → tie.At-loop Inv-loop μ-loop
-shared-slice-known11-to-loop c = v-to-loop (c .before .before .before .before .before)
-
-abbrev shared-slice-known11-to-start : tie.After-shared-slice-known11 Inv-loop μ-loop → tie.Start Inv-loop μ-loop
-shared-slice-known11-to-start c = v-to-start (c .before .before .before .before .before)
-
-abbrev add-at-to-loop : tie.After-add-at Inv-loop μ-loop → tie.At-loop Inv-loop μ-loop
-add-at-to-loop c = shared-slice-known11-to-loop (c .before)
-
-abbrev add-at-to-start : tie.After-add-at Inv-loop μ-loop → tie.Start Inv-loop μ-loop
-add-at-to-start c = shared-slice-known11-to-start (c .before)
+abbrev known11-to-loop : tie.After-shared-slice-known11 Inv-loop μ-loop → tie.At-loop Inv-loop μ-loop
+known11-to-loop c = known11-to-known7 c .before .before
 
 loop-holds : tie.Need-loop-holds Inv-loop μ-loop
 loop-holds c = (search needs, all-unsummed _ _ _ _ refl)
@@ -49,62 +37,47 @@ loop-holds c = (search needs, all-unsummed _ _ _ _ refl)
 cast-b : tie.Need-cast-b Inv-loop μ-loop
 cast-b c = omega (arith, c .shared-slice-known7 .given ((c .before .before) .loop .i))
 
+-- the row's buyer is an agent
+there : (c : tie.After-shared-slice-known7 Inv-loop μ-loop)
+    → at (shared-slice-known7-to-start c .args .buyers .now) ((c .before .before) .loop .i) < mostAgents
+there c =
+    let p = shared-slice-known7-to-start c .pre .0 in
+    omega (arith, p .buyer ((c .before .before) .loop .i) (omega arith), p .agents)
+
 mul-v : tie.Need-mul-v Inv-loop μ-loop
-mul-v c =
-    let h = shared-slice-known7-to-start c .pre .0 .buyer ((c .before .before) .loop .i) (omega arith) in
-    omega (
-      arith,
-      shared-slice-known7-to-start c .pre .0 .agents,
-      shared-slice-known7-to-start c .pre .1,
-      (c .before .before) .loop .inv .1 .long,
-    )
+mul-v c = omega (arith, there c)
 
 array-copy-out-v : tie.Need-array-copy-out-v Inv-loop μ-loop
-array-copy-out-v c =
-    let h = shared-slice-known7-to-start c .pre .0 .buyer ((c .before .before) .loop .i) (omega arith) in
-    omega (
-      arith,
-      shared-slice-known7-to-start c .pre .0 .agents,
-      shared-slice-known7-to-start c .pre .1,
-      (c .before .before) .loop .inv .1 .long,
-    )
+array-copy-out-v c = omega (arith, there c)
 
 mul-z : tie.Need-mul-z Inv-loop μ-loop
-mul-z c =
-    let h = v-to-start c .pre .0 .buyer (v-to-loop c .loop .i) (omega arith) in
-    omega (arith, v-to-start c .pre .0 .agents, v-to-start c .pre .1, v-to-loop c .loop .inv .1 .long)
+mul-z c = omega (arith, there (c .before))
 
 array-copy-out-z : tie.Need-array-copy-out-z Inv-loop μ-loop
-array-copy-out-z c =
-    let h = v-to-start c .pre .0 .buyer (v-to-loop c .loop .i) (omega arith) in
-    omega (arith, v-to-start c .pre .0 .agents, v-to-start c .pre .1, v-to-loop c .loop .inv .1 .long)
+array-copy-out-z c = omega (arith, there (c .before))
 
 add-at-requires : tie.Need-add-at-requires Inv-loop μ-loop
 add-at-requires c κs =
-    let h = shared-slice-known11-to-start c .pre .0 .buyer (shared-slice-known11-to-loop c .loop .i) (omega arith) in
-    let o =
-    shared-slice-known11-to-loop c .loop .inv .1 .each
-    (at (shared-slice-known11-to-start c .args .buyers .now) (shared-slice-known11-to-loop c .loop .i)) (omega arith) in
+    let h = there (known11-to-known7 c) in
+    let o = known11-to-loop c .loop .inv .1 .each _ h in
     (omega (arith, o .ahead), omega (arith, o .under), omega (arith, o .cheaper), omega (arith, o .whole))
 
 mul-all : tie.Need-mul-all Inv-loop μ-loop
-mul-all c =
-    let h = add-at-to-start c .pre .0 .buyer (add-at-to-loop c .loop .i) (omega arith) in
-    omega (arith, add-at-to-start c .pre .0 .agents, add-at-to-start c .pre .1, add-at-to-loop c .loop .inv .1 .long)
+mul-all c = omega (arith, there (known11-to-known7 (c .before)))
 
 array-set-from-all : tie.Need-array-set-from-all Inv-loop μ-loop
-array-set-from-all c =
-    let h = add-at-to-start c .pre .0 .buyer (add-at-to-loop c .loop .i) (omega arith) in
-    omega (arith, add-at-to-start c .pre .0 .agents, add-at-to-start c .pre .1, add-at-to-loop c .loop .inv .1 .long)
+array-set-from-all c = omega (arith, there (known11-to-known7 (c .before)))
 
 loop-again : tie.Need-loop-again Inv-loop μ-loop
 loop-again c =
-    let h = add-at-to-start c .pre .0 .buyer (add-at-to-loop c .loop .i) (omega arith) in (
+    let k = c .before in
+    let l = known11-to-loop k .loop in
+    let h = shared-slice-known7-to-start (known11-to-known7 k) .pre .0 .buyer (l .i) (omega arith) in (
       omega arith,
-      all-summed-more _ _ _ (add-at-to-loop c .loop .i) _ _ _ (omega arith) refl (omega arith)
-          (omega (arith, (c .before .before) .shared-slice-known10 .given (add-at-to-loop c .loop .i)))
-          (omega (arith, (c .before) .shared-slice-known11 .given (add-at-to-loop c .loop .i)))
-          (c .add-at .ensures) (add-at-to-loop c .loop .inv .1),
+      all-summed-more _ _ _ (l .i) _ _ _ (omega arith) refl (omega arith)
+          (omega (arith, (k .before) .shared-slice-known10 .given (l .i)))
+          (omega (arith, k .shared-slice-known11 .given (l .i)))
+          (c .add-at .ensures) (l .inv .1),
     )
 
 returns : tie.Need-returns Inv-loop μ-loop

@@ -1,6 +1,5 @@
 -- The columns are the sheet's, so what the two passes find, and what is added to own energy, is the sheet's too.
 use borrow.Author.Needs.{needs}
-use native.Mathlib.Omega.{arith}
 use Prim.Native.Nat.{_≤_}
 use mathlib.Core.Path.{_≡_, sym}
 use lib.ListN.{take}

@@ -3,7 +3,6 @@ use native.Mathlib.Omega.{arith}
 use Prim.Native.Nat.{_≤_, _-_, _*_}
 use mathlib.Core.Bool.{Bool, _&&_}
 use mathlib.Core.Path.{_≡_, sym, ap₂, _∙_}
-use lib.Dec.{eqb}
 use Rattle.sums.specs.Lists.{at}
 use Rattle.sums.specs.Sums.{sum}
 use Rattle.sums.proofs.Sums.{sum-none, sum-step}
@@ -39,7 +38,12 @@ loop-holds : tie.Need-loop-holds Inv-loop μ-loop
 loop-holds c = (omega arith, sym (every-none _), sym (sum-none _), omega arith)
 
 add-sum : tie.Need-add-sum Inv-loop μ-loop
-add-sum c = omega (arith, c .wide .ensures, wide-to-shared-slice-known2 c .shared-slice-known2 .given (cellsPerAgent * wide-to-loop c .loop .a))
+add-sum c =
+    omega (
+      arith,
+      c .wide .ensures,
+      wide-to-shared-slice-known2 c .shared-slice-known2 .given (cellsPerAgent * wide-to-loop c .loop .a),
+    )
 
 loop-again : tie.Need-loop-again Inv-loop μ-loop
 loop-again c = (

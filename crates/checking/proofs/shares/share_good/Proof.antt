@@ -1,6 +1,5 @@
 use borrow.Author.Needs.{needs}
-use native.Mathlib.Omega.{arith}
-use mathlib.Core.Path.{_≡_, _∙_}
+use mathlib.Core.Path.{_∙_}
 use Rattle.checking.proofs.shares.share_good.Statement.{statement}
 use Rattle.checking.proofs.shares.share_good.Tie as tie
 

@@ -1,5 +1,4 @@
 use borrow.Author.Needs.{needs}
-use native.Mathlib.Omega.{arith}
 use mathlib.Core.Path.{_∙_, sym}
 use Rattle.ground.proofs.line.bought.Statement.{statement}
 use Rattle.ground.proofs.line.bought.Tie as tie

@@ -12,8 +12,7 @@ known-to-start c = c .before
 fill-requires : tie.Need-fill-requires
 fill-requires c κs =
     let e = known-to-start (c .before .before .before .before .before) .pre in
-    let few = accepted-few _ _ e .plants in
-    (
+    let few = accepted-few _ _ e .plants in (
       e,
       record {
         holders = omega (arith, few);

@@ -27,9 +27,14 @@ abbrev section : tie.After-section-of Inv-loop μ-loop → List ℕ
 section c = c .section-of .result .now
 
 loop-holds : tie.Need-loop-holds Inv-loop μ-loop
-loop-holds c =
-    (omega arith, filled-none 0 _ _, filled-none 0 _ _, filled-none 0 _ _, filled-none 0 _ _,
-    filled-none 0 _ _)
+loop-holds c = (
+  omega arith,
+  filled-none 0 _ _,
+  filled-none 0 _ _,
+  filled-none 0 _ _,
+  filled-none 0 _ _,
+  filled-none 0 _ _,
+)
 
 -- the row that was read
 is : (c : tie.After-plant-of Inv-loop μ-loop)

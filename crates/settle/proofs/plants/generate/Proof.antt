@@ -8,7 +8,7 @@ use lib.ListN.{length, take}
 use Rattle.rows.specs.Limits.{mostPlants}
 use Rattle.sums.specs.Sums.{sum}
 use Rattle.sums.specs.Lists.{at, Filled}
-use Rattle.sums.proofs.Sums.{sum-eq, sum-most}
+use Rattle.sums.proofs.Sums.{sum-eq}
 use Rattle.sums.proofs.Fill.{filled-by, filled-count, front-fits, front-long}
 use Rattle.sheet.proofs.Accepted.{accepted-few}
 use Rattle.columns.specs.Columns.{columnsOf}
@@ -18,7 +18,7 @@ use Rattle.hour.specs.Sound.{Sound}
 use Rattle.hour.specs.Lines.{scheduled}
 use Rattle.hour.proofs.Bounds.{scheduled-le}
 use Rattle.dispatch.specs.Dispatch.{Dispatched}
-use Rattle.ground.specs.Ground.{Fleet, fleet, Listed}
+use Rattle.ground.specs.Ground.{Fleet, fleet}
 use Rattle.ground.proofs.Rows.{Fronts, fronts}
 use Rattle.settle.specs.Parts.{spareOf}
 use Rattle.settle.proofs.Stages.{spare-are, scheduled-at, scheduled-are, price-is, plants-count, own-is, own-small}
@@ -119,8 +119,9 @@ spare : (c : tie.After-set-apart)
 spare c =
     let l = apart-to-columns c in
     let s = columns-to-start l in
-    spare-are (sheet s) _ (count s) (listed l .musts) (listed l .available) _ (front-fits _ _ _ _ (l .columns .ensures .available) (few s)) (musts-at l)
-    (l .columns .ensures .available .done) (c .set-apart .ensures .1)
+    spare-are (sheet s) _ (count s) (listed l .musts) (listed l .available) _
+    (front-fits _ _ _ _ (l .columns .ensures .available) (few s)) (musts-at l) (l .columns .ensures .available .done)
+    (c .set-apart .ensures .1)
 
 -- the demand that the must-runs leave
 rest : (c : tie.After-less)
