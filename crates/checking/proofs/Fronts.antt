@@ -21,7 +21,7 @@ use Rattle.hour.specs.Sheet.{Sheet, plants, contracts}
 use Rattle.hour.specs.Sound.{Sound}
 use Rattle.statement.specs.Decide.{every}
 use Rattle.statement.specs.Tests.{withinTest, orderTest}
-use Rattle.ground.specs.Ground.{Fleet, Listed}
+use Rattle.ground.specs.Ground.{Fleet, Tabled}
 use Rattle.checking.specs.Accounts.{rowsFrom, Columns}
 use Rattle.checking.specs.Parts.{Spacious, CountableWide, Totalled, RanTo, scheduleTest}
 use Rattle.checking.specs.declared.plants.Run.{Run}
@@ -108,7 +108,7 @@ module _ (s : List ℕ) (c : Counts) (e : readOf s ≡ Reading.Accepted c) where
         → at after a ≡ keyed (at (h .holders)) (at qs) (plants h) a + at before a
     own-is hs before after q t a m = rw q at (t .each a m)
 
-    module _ (before f : Fleet) (l : Listed h (c .plants) before f) (v : Run)
+    module _ (before f : Fleet) (l : Tabled h (c .plants) before f) (v : Run)
         (r : RanTo (f .flags) (f .musts) (f .offers) (f .available) qs (c .plants) v) where
       ran : RanTo (h .flags) (h .mustRun) (h .offers) (h .available) qs (plants h) v
       ran =

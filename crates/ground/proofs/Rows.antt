@@ -23,7 +23,7 @@ use Rattle.sheet.proofs.Sections.{plant-row}
 use Rattle.columns.specs.Columns.{columnsOf}
 use Rattle.columns.proofs.Columns.{plants-long, sound}
 use Rattle.hour.specs.Sheet.{Sheet, plants}
-use Rattle.ground.specs.Ground.{Fleet, Listed}
+use Rattle.ground.specs.Ground.{Fleet, Tabled}
 use Rattle.ground.specs.Parts.{Wide}
 
 -- row j of a plant section
@@ -77,7 +77,7 @@ pub fronts : (s : List ℕ) (c : Counts)
     → readOf s ≡ Reading.Accepted c
     → (before after : Fleet)
     → Wide (c .plants) before
-    → Listed (columnsOf s c) (c .plants) before after
+    → Tabled (columnsOf s c) (c .plants) before after
     → Fronts (columnsOf s c) (c .plants) after
 fronts s c e before after room l =
     let whole = sound s c e .whole in

@@ -1,11 +1,18 @@
--- What settling and checking both stand on: the plants of a sheet by their columns, and what an agent's line says it bought and sold.
--- Assumes nothing.
+-- What settling and checking both stand on: whether an hour is settled at all, the plants of a sheet by their columns, and what an agent's
+-- line says it bought and sold. Assumes nothing.
 use Prim.Native.Nat.{ℕ, _+_, _-_}
 use mathlib.Core.Bool.{cond}
 use mathlib.Core.List.{List}
+use lib.IntN.{ℤ}
 use Rattle.sums.specs.Lists.{at, Filled}
+use Rattle.refusals.specs.declared.Verdict.{Verdict}
 use Rattle.rows.specs.Rows.{carriesLosses}
 use Rattle.hour.specs.Sheet.{Sheet}
+use Rattle.hour.specs.Answer.{hourVerdict}
+
+-- the verdict on the hour of the sheet h, for these four lists: refusals 7 to 10, 13 and 11
+abbrev pub admission : (h : Sheet) (figures : List ℕ) (money : List ℤ) (schedule amounts : List ℕ) → Verdict
+admission h f m s a = hourVerdict h (record { figures = f; money = m; schedule = s; amounts = a })
 
 -- the columns of a sheet's plants, a cell a plant
 pub record Fleet : Type 0 where
@@ -19,7 +26,7 @@ abbrev pub fleet : (holders flags musts offers available : List ℕ) → Fleet
 fleet h f m o v = record { holders = h; flags = f; musts = m; offers = o; available = v }
 
 -- in the first n cells the columns of the sheet h; what stands behind is as it was
-pub record Listed (h : Sheet) (n : ℕ) (before after : Fleet) : Type 0 where
+pub record Tabled (h : Sheet) (n : ℕ) (before after : Fleet) : Type 0 where
   pub holders : Filled 0 (before .holders) (after .holders) n (at (h .holders))
   pub flags : Filled 0 (before .flags) (after .flags) n (at (h .flags))
   pub musts : Filled 0 (before .musts) (after .musts) n (at (h .mustRun))

@@ -16,8 +16,8 @@ ghost use Rattle.refusals.specs.declared.Verdict.{Verdict};
 ghost use Rattle.sheet.specs.Reading.{readOf};
 ghost use Rattle.sheet.specs.declared.Reading.{Reading};
 ghost use Rattle.columns.specs.Columns.{columnsOf};
-ghost use Rattle.hour.specs.Answer.{hourVerdict};
 ghost use Rattle.balance.specs.Balances.{ledger, Weighing};
+ghost use Rattle.ground.specs.Ground.{admission};
 ghost use Rattle.ground.specs.Parts.{roomy, lateVerdict, refusedWeight};
 
 // Lists as long as the counts ask for.
@@ -75,13 +75,8 @@ pub fn admit(
 ) -> Weight
     requires { ⌜ readOf (now bytes) ≡ Reading.Accepted c ⌝ }
     ensures { λ r. ⌜ Weighing
-        (hourVerdict (columnsOf (now (bytes .entry)) c)
-        (record {
-          figures = now (figures .entry);
-          money = now (money .entry);
-          schedule = now (schedule .entry);
-          amounts = now (amounts .entry);
-        }))
+        (admission (columnsOf (now (bytes .entry)) c)
+        (now (figures .entry)) (now (money .entry)) (now (schedule .entry)) (now (amounts .entry)))
         (columnsOf (now (bytes .entry)) c)
         (ledger (now (kinds .entry)) (now (shares .entry)) (now (commercial .entry)) (now (own .entry)) (now (imports .entry)))
         (ledger (now (kinds .exit)) (now (shares .exit)) (now (commercial .exit)) (now (own .exit)) (now (imports .exit)))

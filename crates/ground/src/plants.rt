@@ -8,7 +8,7 @@ ghost use Rattle.sheet.specs.Reading.{readOf};
 ghost use Rattle.sheet.specs.declared.Reading.{Reading};
 ghost use Rattle.columns.specs.Columns.{columnsOf};
 ghost use Rattle.hour.specs.Sheet.{plants};
-ghost use Rattle.ground.specs.Ground.{fleet, Listed};
+ghost use Rattle.ground.specs.Ground.{fleet, Tabled};
 ghost use Rattle.ground.specs.Parts.{Wide};
 
 // What all plants can deliver together, and what of it they must.
@@ -48,7 +48,7 @@ fn fill(
 )
     requires { ⌜ readOf (now bytes) ≡ Reading.Accepted c ⌝ }
     requires { ⌜ Wide (c .plants) (fleet (now holders) (now flags) (now musts) (now offers) (now available)) ⌝ }
-    ensures { λ _. ⌜ Listed (columnsOf (now (bytes .entry)) c) (c .plants)
+    ensures { λ _. ⌜ Tabled (columnsOf (now (bytes .entry)) c) (c .plants)
         (fleet (now (holders .entry)) (now (flags .entry)) (now (musts .entry)) (now (offers .entry)) (now (available .entry)))
         (fleet (now (holders .exit)) (now (flags .exit)) (now (musts .exit)) (now (offers .exit)) (now (available .exit))) ⌝ }
 {
@@ -77,7 +77,7 @@ pub fn columns(
     available: &mut [u32; Plant::MOST],
 )
     requires { ⌜ readOf (now bytes) ≡ Reading.Accepted c ⌝ }
-    ensures { λ _. ⌜ Listed (columnsOf (now (bytes .entry)) c) (c .plants)
+    ensures { λ _. ⌜ Tabled (columnsOf (now (bytes .entry)) c) (c .plants)
         (fleet (now (holders .entry)) (now (flags .entry)) (now (musts .entry)) (now (offers .entry)) (now (available .entry)))
         (fleet (now (holders .exit)) (now (flags .exit)) (now (musts .exit)) (now (offers .exit)) (now (available .exit))) ⌝ }
 {
