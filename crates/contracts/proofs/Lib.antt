@@ -10,4 +10,5 @@ pub mod OwnKeys
 pub mod ByPlace
 pub mod Section
 pub mod Uncut
+pub mod Spots
 pub mod Verdicts

@@ -14,7 +14,7 @@ use borrow.Author.Tests.{lt-ltb, le-ltb, eq-eqb, ne-eqb, eqb-true}
 use lib.Seq.{getD-set-same, getD-set-other, getD-take, length-take-le}
 use Rattle.sums.specs.Sums.{sum, pick, keyed}
 use Rattle.sums.specs.Lists.{at, total, Filled}
-use Rattle.sums.proofs.Sums.{sum-eq, sum-le, sum-add, sum-term, sum-none, sum-step}
+use Rattle.sums.proofs.Sums.{sum-eq, sum-le, sum-add, sum-term}
 use Rattle.sums.proofs.Picks.{pick-le, pick-eq, pick-ne, pick-lt, pick-ge, pick-both, pick-true, pick-false, pick-zero}
 use Rattle.sums.proofs.Keyed.{keyed-none, keyed-most, keyed-put}
 use Rattle.sums.proofs.Tests.{clash, and-both}
@@ -33,9 +33,9 @@ use Rattle.deals.proofs.Demanded.{amount-demanded, amount-firm}
 use Rattle.deals.proofs.Amounts.{amount-le}
 use Rattle.deals.proofs.Rest.{rest-total}
 use Rattle.contracts.specs.Assign.{countIn, dealIn, dealsIn}
-use Rattle.contracts.specs.Keys.{keySide, keyRow, Ready}
-use Rattle.contracts.specs.Sides.{Bounded, sideOf, cellOf, heldIn, AddedUp, cutOf, startOf, Decided, NoneCut, Cuts}
-use Rattle.contracts.specs.Sides.{isCut, sideIn, uncutOf, FrontKeys, Cut}
+use Rattle.contracts.specs.Keys.{Ready}
+use Rattle.contracts.specs.Sides.{Bounded, sideOf, cellOf, heldIn, BySide, AddedUp, cutOf, startOf, Decided, NoneCut, Cuts}
+use Rattle.contracts.specs.Sides.{isCut, sideIn, uncutOf, Cut}
 use Rattle.contracts.proofs.Decode.{side-demanded, side-firm}
 use Rattle.contracts.proofs.Known.{own-few, own-known, own-most}
 use Rattle.contracts.proofs.OwnKeys.{firmSum}
@@ -473,36 +473,25 @@ module _ (s ds : List ℕ) (ready : Ready (dealsIn s) ds) where
             λ z. omega (arith, side-most (dealIn s j .kind)) in
             sym (all j l differs (omega (arith, side-most (dealIn s j .kind)))) ∙ uncut-is j l differs
 
--- ---- the totals
-pub added-none : (s : List ℕ) → AddedUp s 0 (replicate (2 * mostAgents) 0)
-added-none s =
-    record {
-      each =
-          λ b l. getD-replicate (2 * mostAgents) b 0 0 l
-          ∙ sym (keyed-none (λ j. cellOf (dealIn s j)) (λ j. dealIn s j .quantity) b);
-      long = length-replicate {A = ℕ} (2 * mostAgents) 0;
-    }
+-- ---- what is added up by side
+module _ (s : List ℕ) (f : ℕ → ℕ) (cells : ℕ) where
+  pub added-none : BySide s f cells 0 (replicate cells 0)
+  added-none =
+      record {
+        each = λ b l. getD-replicate cells b 0 0 l ∙ sym (keyed-none (λ j. cellOf (dealIn s j)) f b);
+        long = length-replicate {A = ℕ} cells 0;
+      }
 
-pub added-most : (s totals : List ℕ) (n v : ℕ)
-    → ((j : ℕ) → j < n → dealIn s j .quantity ≤ mostQuantity)
-    → v < 2 * mostAgents
-    → AddedUp s n totals
-    → at totals v ≤ mostQuantity * n
-added-most s totals n v h m a =
-    omega (arith, a .each v m, keyed-most (λ j. cellOf (dealIn s j)) (λ j. dealIn s j .quantity) n v mostQuantity h)
+  module _ (l : List ℕ) (n v : ℕ) (in-cells : v < cells) (a : BySide s f cells n l) where
+    pub added-most : (most : ℕ) → ((j : ℕ) → j < n → f j ≤ most) → at l v ≤ most * n
+    added-most most h = omega (arith, a .each v in-cells, keyed-most (λ j. cellOf (dealIn s j)) f n v most h)
 
-pub added-more : (s totals : List ℕ) (n v q : ℕ)
-    → v ≡ cellOf (dealIn s n)
-    → q ≡ dealIn s n .quantity
-    → v < 2 * mostAgents
-    → AddedUp s n totals
-    → AddedUp s (n + 1) (set totals v (at totals v + q))
-added-more s totals n v q e f l a =
-    record {
-      each =
-          keyed-put (λ j. cellOf (dealIn s j)) (λ j. dealIn s j .quantity) n (2 * mostAgents) totals v q e f l (a .long) (a .each);
-      long = length-set totals v (at totals v + q) ∙ a .long;
-    }
+    pub added-more : (q : ℕ) → v ≡ cellOf (dealIn s n) → q ≡ f n → BySide s f cells (n + 1) (set l v (at l v + q))
+    added-more q e g =
+        record {
+          each = keyed-put (λ j. cellOf (dealIn s j)) f n cells l v q e g in-cells (a .long) (a .each);
+          long = length-set l v (at l v + q) ∙ a .long;
+        }
 
 -- ---- one buyer more is decided
 pub decided-none : (ds before : List ℕ) → Decided 0 ds before before
@@ -581,88 +570,3 @@ none-more ds before now b y any m f c h e a l = go (ℕ-discrete a b)
     go (yes z) =
         rw z (sym (f ∙ ap₂ (cutOf (at ds b)) (old .0) (old .1)) ∙ eqb-true y 2 (both any (eqb y 2) e .1))
     go (no z) = h (both any (eqb y 2) e .0) a (omega arith)
-
--- ---- the rows that are chosen
-pub chosen-none : (over : ℕ → Bool) (key : ℕ → ℕ) (l : List ℕ) → FrontKeys over key 0 0 l
-chosen-none over key l =
-    record {
-      few = omega arith;
-      sums = λ g. sum-none (λ u. g (at l u)) ∙ sym (sum-none (λ j. pick (over (keySide (key j))) (g (key j))));
-      row = λ u h. absurd (omega arith);
-      less = λ q r h k. absurd (omega arith);
-    }
-
--- the row i is chosen, or not: its key is put behind those that were, and counted where it is
-pub chosen-more : (over : ℕ → Bool) (key : ℕ → ℕ) (i p k w : ℕ) (l : List ℕ)
-    → k ≡ key i
-    → keyRow (key i) ≡ i
-    → w ≡ pick (over (keySide k)) 1
-    → p < length l
-    → FrontKeys over key i p l
-    → FrontKeys over key (i + 1) (p + w) (set l p k)
-chosen-more over key i p k w l e f d h c = go (over (keySide k)) refl
-  where
-    same : (u : ℕ) → u < p → at (set l p k) u ≡ at l u
-    same u m = getD-set-other l p u k 0 (λ z. omega arith)
-
-    front : (g : ℕ → ℕ) → sum p (λ u. g (at (set l p k) u)) ≡ sum i (λ j. pick (over (keySide (key j))) (g (key j)))
-    front g = sum-eq p (λ u. g (at (set l p k) u)) (λ u. g (at l u)) (λ u m. ap g (same u m)) ∙ c .sums g
-
-    here : (g : ℕ → ℕ) (t : Bool) → over (keySide k) ≡ t → pick (over (keySide (key i))) (g (key i)) ≡ pick t (g k)
-    here g t z = sym (ap₂ (λ (x y : ℕ). pick (over (keySide x)) (g y)) e e) ∙ ap (λ (v : Bool). pick v (g k)) z
-
-    last : at (set l p k) p ≡ k
-    last = getD-set-same l p k 0 h
-
-    mine : keyRow k ≡ i
-    mine = ap keyRow e ∙ f
-
-    before : (u : ℕ) → u < p → keyRow (at (set l p k) u) < i
-    before u m = omega (arith, ap keyRow (same u m), c .row u m)
-
-    go : (t : Bool) → over (keySide k) ≡ t → FrontKeys over key (i + 1) (p + w) (set l p k)
-    go true z =
-        let v : p + w ≡ p + 1 = omega (arith, d, pick-true (over (keySide k)) 1 z) in
-        rw v (record {
-          few = omega (arith, c .few);
-          sums =
-              λ g. omega (
-                arith,
-                sum-step p (λ u. g (at (set l p k) u)),
-                sum-step i (λ j. pick (over (keySide (key j))) (g (key j))),
-                front g,
-                here g true z,
-                pick-true true (g k) refl,
-                ap g last,
-              );
-          row = λ u m. at-most u m (decLt u p);
-          less = λ q r m n. up q r m n (decLt r p);
-        })
-      where
-        at-most : (u : ℕ) → u < p + 1 → Dec (u < p) → keyRow (at (set l p k) u) < i + 1
-        at-most u m (yes n) = omega (arith, before u n)
-        at-most u m (no n) =
-            let x : u ≡ p = omega arith in omega (arith, ap (λ (y : ℕ). keyRow (at (set l p k) y)) x, ap keyRow last, mine)
-
-        up : (q r : ℕ) → q < r → r < p + 1 → Dec (r < p) → keyRow (at (set l p k) q) < keyRow (at (set l p k) r)
-        up q r m n (yes x) =
-            omega (arith, c .less q r m x, ap keyRow (same q (omega arith)), ap keyRow (same r x))
-        up q r m n (no x) =
-            let y : r ≡ p = omega arith in
-            omega (arith, ap (λ (v : ℕ). keyRow (at (set l p k) v)) y, ap keyRow last, mine, before q (omega arith))
-    go false z =
-        let v : p + w ≡ p = omega (arith, d, pick-false (over (keySide k)) 1 z) in
-        rw v (record {
-          few = omega (arith, c .few);
-          sums =
-              λ g. omega (
-                arith,
-                sum-step i (λ j. pick (over (keySide (key j))) (g (key j))),
-                front g,
-                here g false z,
-                pick-false false (g k) refl,
-              );
-          row = λ u m. omega (arith, before u m);
-          less =
-              λ q r m n. omega (arith, c .less q r m n, ap keyRow (same q (omega arith)), ap keyRow (same r n));
-        })

@@ -130,13 +130,14 @@ module _ (s : List ℕ) (agents i : ℕ) (l : i < countIn s)
   pub row-stop : (v : Verdict)
       → v ≡ refused badContract i
       → good ≡ false
-      → (totals : List ℕ)
-      → Totalled (dealsVerdict s agents) s v totals
-  row-stop v e f totals =
+      → (totals counts : List ℕ)
+      → Totalled (dealsVerdict s agents) s v totals counts
+  row-stop v e f totals counts =
       record {
         answer =
             e ∙ sym (here ∙ bad-row (dealVerdict s agents) (countIn s) i (refusal badContract i) l (row-is false f));
         held = λ z. not-fine (refusal badContract i) (sym e ∙ z);
+        counted = λ z. not-fine (refusal badContract i) (sym e ∙ z);
       }
 
   pub row-pass : good ≡ true → dealsVerdict s agents ≡ firstBad (dealVerdict s agents) (i + 1) (countIn s - (i + 1))
@@ -144,28 +145,30 @@ module _ (s : List ℕ) (agents i : ℕ) (l : i < countIn s)
 
 -- ---- the verdict as it is come to
 module _ (s ds out : List ℕ) where
-  pub judge-layout : (v : Verdict) (totals : List ℕ)
+  pub judge-layout : (v : Verdict) (totals counts : List ℕ)
       → v ≡ refused badLayout 0
       → sectionFits s ds ≡ false
-      → Totalled (assignVerdict s ds out) s v totals
-  judge-layout v totals e f =
+      → Totalled (assignVerdict s ds out) s v totals counts
+  judge-layout v totals counts e f =
       record {
         answer =
             e ∙ sym (ap (λ (t : Bool). orElse (refusedUnless t badLayout 0)
             (orElse (dealsVerdict s (length ds)) (orElse (amountsVerdict s out) Verdict.Fine))) f);
         held = λ z. not-fine (refusal badLayout 0) (sym e ∙ z);
+        counted = λ z. not-fine (refusal badLayout 0) (sym e ∙ z);
       }
 
   -- a bad row is told before a short list
-  pub judge-rest : (v w x : Verdict) (fits : Bool) (totals : List ℕ)
+  pub judge-rest : (v w x : Verdict) (fits : Bool) (totals counts : List ℕ)
       → sectionFits s ds ≡ true
-      → Totalled (dealsVerdict s (length ds)) s v totals
+      → Totalled (dealsVerdict s (length ds)) s v totals counts
       → fits ≡ leb (countIn s) (length out) → w ≡ refusedUnless fits noRoom 0 → x ≡ orElse v w
-      → Totalled (assignVerdict s ds out) s x totals
-  judge-rest v w x fits totals good k f g e =
+      → Totalled (assignVerdict s ds out) s x totals counts
+  judge-rest v w x fits totals counts good k f g e =
       record {
         answer = rw (e, k .answer, g, f, good, else-fine);
         held = λ z. k .held (fine-left v w (sym e ∙ z));
+        counted = λ z. k .counted (fine-left v w (sym e ∙ z));
       }
 
 -- ---- a refusal writes no cell, and fine rows are all written

@@ -18,7 +18,7 @@ ghost use Rattle.refusals.specs.Refusals.{refusedUnless, orElse, noRoom};
 ghost use Rattle.rows.specs.Limits.{mostContracts};
 ghost use Rattle.contracts.specs.Assign.{countIn, dealIn, dealsIn, sectionFits, assignVerdict, Assigned};
 ghost use Rattle.contracts.specs.Keys.{rowSpan, dealKey, keyIn, keyRow, Ready};
-ghost use Rattle.contracts.specs.Sides.{AddedUp, Totalled, Cuts, isCut, FrontKeys, Picked, Cut, AllAssigned};
+ghost use Rattle.contracts.specs.Sides.{AddedUp, Numbered, Totalled, Cuts, isCut, FrontKeys, Picked, Cut, AllAssigned};
 ghost use Rattle.contracts.specs.Walk.{Rowed, Scattered};
 
 // ---- the key of each row, by which the rows are put in order
@@ -78,16 +78,17 @@ fn or_else(v: Verdict, w: Verdict) -> Verdict
     w
 }
 
-// A bad row is told before a short list. Where nothing is wrong, the totals have what each side of each buyer holds.
-fn judge(section: &[u8], demands: &[u32], out: &[u32], totals: &mut [u32]) -> Verdict
-    requires { ⌜ AddedUp (now section) 0 (now totals) ⌝ }
+// A bad row is told before a short list. Where nothing is wrong, the totals have what each side of each buyer holds, and the counts in how
+// many rows.
+fn judge(section: &[u8], demands: &[u32], out: &[u32], totals: &mut [u32], counts: &mut [u32]) -> Verdict
+    requires { ⌜ AddedUp (now section) 0 (now totals) × Numbered (now section) 0 (now counts) ⌝ }
     ensures { λ r. ⌜ Totalled (assignVerdict (now (section .entry)) (now (demands .entry)) (now (out .entry)))
-        (now (section .entry)) r (now (totals .exit)) ⌝ }
+        (now (section .entry)) r (now (totals .exit)) (now (counts .exit)) ⌝ }
 {
     if !layout_good(section, demands) {
         return refusals::refuse(Refusal::LAYOUT, 0);
     }
-    let rows = sides::add_up(section, demands.len(), totals);
+    let rows = sides::add_up(section, demands.len(), totals, counts);
     let room = room_verdict(section.len() / 16 <= out.len());
     or_else(rows, room)
 }
@@ -142,11 +143,12 @@ fn serve(section: &[u8], keys: &[u64], n: usize, decided: &[u32], demands: &[u32
     scatter(keys, n, &amounts, out);
 }
 
-// The same from their keys in the order of the rows. The sort's scratch is gone when they are served.
+// The same from their keys by buyer, `most` of one buyer at the most. The sort's scratch is gone when they are served.
 fn assign_cut(
     section: &[u8],
     keys: &mut [u64],
     n: usize,
+    most: u32,
     decided: &[u32],
     demands: &[u32],
     out: &mut [u32],
@@ -158,29 +160,32 @@ fn assign_cut(
     ensures { λ _. ⌜ Cut (now (section .entry)) (now (demands .entry)) (isCut (now (decided .entry)))
         (now (out .entry)) (now (out .exit)) ⌝ }
 {
-    order::sort(keys, n);
+    order::sort(keys, n, most);
     serve(section, keys, n, decided, demands, out);
 }
 
 // Where some side is cut: the rows of the others at once, then its own.
-fn assign_some(section: &[u8], decided: &[u32], demands: &[u32], out: &mut [u32])
+fn assign_some(section: &[u8], decided: &[u32], counts: &[u32], demands: &[u32], out: &mut [u32])
     requires { ⌜ Ready (dealsIn (now section)) (now demands) × (countIn (now section) ≤ length (now out)) ⌝ }
-    requires { ⌜ Cuts (now section) (now demands) (now decided) ⌝ }
+    requires { ⌜ Cuts (now section) (now demands) (now decided) × Numbered (now section) (countIn (now section)) (now counts) ⌝ }
     ensures { λ _. ⌜ AllAssigned (now (section .entry)) (now (demands .entry)) (now (out .entry)) (now (out .exit)) ⌝ }
 {
+    let mut next = [0u32; sides::PLACES];
+    let n = sides::spots(demands.len(), decided, counts, &mut next);
+    let most = next[Agent::MOST];
     let mut keys = [0u64; Contract::MOST];
-    let n = sides::part(section, decided, &mut keys, out);
-    assign_cut(section, &mut keys, n, decided, demands, out);
+    sides::part(section, decided, &mut next, &mut keys, out);
+    assign_cut(section, &mut keys, n, most, decided, demands, out);
 }
 
 // Rows that nothing is wrong with, from what the sides hold.
-fn assign_all(section: &[u8], totals: &mut [u32], demands: &[u32], out: &mut [u32])
+fn assign_all(section: &[u8], totals: &mut [u32], counts: &[u32], demands: &[u32], out: &mut [u32])
     requires { ⌜ Ready (dealsIn (now section)) (now demands) × (countIn (now section) ≤ length (now out)) ⌝ }
-    requires { ⌜ AddedUp (now section) (countIn (now section)) (now totals) ⌝ }
+    requires { ⌜ AddedUp (now section) (countIn (now section)) (now totals) × Numbered (now section) (countIn (now section)) (now counts) ⌝ }
     ensures { λ _. ⌜ AllAssigned (now (section .entry)) (now (demands .entry)) (now (out .entry)) (now (out .exit)) ⌝ }
 {
     if sides::decide(demands, totals) {
-        assign_some(section, totals, demands, out);
+        assign_some(section, totals, counts, demands, out);
         return;
     }
     sides::in_full(section, out);
@@ -191,10 +196,11 @@ pub fn assign(section: &[u8], demands: &[u32], out: &mut [u32]) -> Verdict
     ensures { λ r. ⌜ Assigned (now (section .entry)) (now (demands .entry)) (now (out .entry)) r (now (out .exit)) ⌝ }
 {
     let mut totals = [0u32; sides::CELLS];
-    let v = judge(section, demands, out, &mut totals);
+    let mut counts = [0u32; sides::COUNTS];
+    let v = judge(section, demands, out, &mut totals, &mut counts);
     let Verdict::Fine = v else {
         return v;
     };
-    assign_all(section, &mut totals, demands, out);
+    assign_all(section, &mut totals, &counts, demands, out);
     Verdict::Fine
 }

@@ -2,6 +2,7 @@ use native.Mathlib.Omega.{arith}
 use mathlib.Core.Path.{_∙_}
 use borrow.Author.Needs.{needs}
 use Rattle.contracts.proofs.Section.{few-rows, section-picked}
+use Rattle.contracts.proofs.Spots.{front-apart}
 use Rattle.contracts.proofs.assign_cut.Statement.{statement}
 use Rattle.contracts.proofs.assign_cut.Tie as tie
 
@@ -18,7 +19,7 @@ sort-requires c κs =
     let front = start .pre .1 .1 in (
       omega (arith, front .few, few-rows _ _ (start .pre .0 .0)),
       omega (arith, front .few, start .pre .0 .2),
-      record { less = front .less },
+      front-apart _ _ (start .pre .0 .0) _ (start .pre .1 .0) _ _ front,
     )
 
 serve-requires : tie.Need-serve-requires

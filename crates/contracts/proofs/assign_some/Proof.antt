@@ -2,43 +2,66 @@ use native.Mathlib.Omega.{arith}
 use borrow.Author.Needs.{needs}
 use Rattle.contracts.proofs.Section.{few-rows}
 use Rattle.contracts.proofs.Uncut.{bounded, cut-full}
+use Rattle.contracts.proofs.Spots.{decided-most, spots-few, spots-next, spots-front}
 use Rattle.contracts.proofs.assign_some.Statement.{statement}
 use Rattle.contracts.proofs.assign_some.Tie as tie
 
 -- ways back: X-to-Y leads from the place X of the code to the earlier place Y
-abbrev part-arg-to-start : tie.After-part-arg → tie.Start
-part-arg-to-start c = c .before .before .before .before .before .before
+abbrev next-to-start : tie.After-next → tie.Start
+next-to-start c = c .before .before .before .before .before .before
+
+abbrev part-arg-to-spots : tie.After-part-arg → tie.After-spots
+part-arg-to-spots c = c .before .before .before .before
 
 abbrev cut-arg-to-part : tie.After-assign-cut-arg → tie.After-part
-cut-arg-to-part c = c .before .before .before .before .before
+cut-arg-to-part c = c .before .before .before .before .before .before
+
+spots-requires : tie.Need-spots-requires
+spots-requires c κs =
+    let start = next-to-start c in
+    let ready = start .pre .0 .0 in
+    let cuts = start .pre .1 .0 in (
+      (ready .agents, cuts .long, start .pre .1 .1 .long, search needs),
+      (decided-most _ _ ready _ cuts, spots-few _ _ ready _ cuts _ (start .pre .1 .1)),
+    )
 
 part-requires : tie.Need-part-requires
 part-requires c κs =
-    let start = part-arg-to-start c in (
-      (few-rows _ _ (start .pre .0 .0), start .pre .0 .1),
-      (start .pre .1 .long, bounded _ _ (start .pre .0 .0)),
+    let spotted = part-arg-to-spots c in
+    let start = next-to-start (spotted .before) in
+    let ready = start .pre .0 .0 in
+    let cuts = start .pre .1 .0 in (
+      (omega arith, start .pre .0 .1),
+      (cuts .long, bounded _ _ ready, spots-next _ _ ready _ cuts _ (start .pre .1 .1) _ (spotted .spots .ensures .1)),
     )
 
 assign-cut-requires : tie.Need-assign-cut-requires
 assign-cut-requires c κs =
     let parted = cut-arg-to-part c in
-    let start = part-arg-to-start (parted .before) in (
+    let spotted = part-arg-to-spots (parted .before) in
+    let start = next-to-start (spotted .before) in
+    let ready = start .pre .0 .0 in
+    let cuts = start .pre .1 .0 in (
       (
-        start .pre .0 .0,
+        ready,
         omega (arith, parted .part .ensures .uncut .long, start .pre .0 .1),
-        omega (arith, few-rows _ _ (start .pre .0 .0)),
+        omega (arith, parted .part .ensures .cut .long, few-rows _ _ ready),
       ),
-      (start .pre .1, parted .part .ensures .cut),
+      (
+        cuts,
+        spots-front _ _ ready _ cuts _ (start .pre .1 .1) _ _ _ (spotted .spots .ensures .0) (parted .part .ensures .cut),
+      ),
     )
 
 returns : tie.Need-returns
 returns c =
     let cut = c .before .before .before in
     let parted = cut-arg-to-part (cut .before) in
-    let start = part-arg-to-start (parted .before) in
-    cut-full _ _ (start .pre .0 .0) _ (start .pre .1) _ _ _ (parted .part .ensures .uncut) (cut .assign-cut .ensures)
+    let start = next-to-start (part-arg-to-spots (parted .before) .before) in
+    cut-full _ _ (start .pre .0 .0) _ (start .pre .1 .0) _ _ _ (parted .part .ensures .uncut) (cut .assign-cut .ensures)
 
 pub assign-some-spec : {M : Type 1} → statement M
 assign-some-spec =
     tie.close
-    (tie.spec (λ c. search needs) part-requires (λ c. search needs) assign-cut-requires (λ c. search needs) returns)
+    (tie.spec (λ c. search needs) spots-requires (λ c. search needs) (λ c. search needs) (λ c. search needs) part-requires
+    (λ c. search needs) assign-cut-requires (λ c. search needs) returns)
