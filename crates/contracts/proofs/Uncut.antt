@@ -34,7 +34,7 @@ use Rattle.deals.proofs.Amounts.{amount-le}
 use Rattle.deals.proofs.Rest.{rest-total}
 use Rattle.contracts.specs.Assign.{countIn, dealIn, dealsIn}
 use Rattle.contracts.specs.Keys.{Ready}
-use Rattle.contracts.specs.Sides.{Bounded, sideOf, cellOf, heldIn, BySide, AddedUp, cutOf, startOf, Decided, NoneCut, Cuts}
+use Rattle.contracts.specs.Sides.{Bounded, sideOf, sideCell, heldIn, BySide, AddedUp, cutOf, sideStart, Decided, NoneCut, Cuts}
 use Rattle.contracts.specs.Sides.{isCut, sideIn, uncutOf, Cut}
 use Rattle.contracts.proofs.Decode.{side-demanded, side-firm}
 use Rattle.contracts.proofs.Known.{own-few, own-known, own-most}
@@ -166,12 +166,12 @@ module _ (s : Deals) (d : ℕ) (few : count s ≤ mostContracts) (least : (j : �
 
 -- ---- which side is cut, and where it begins
 module _ (d f : ℕ) where
-  pub start-firm : d < f → startOf d f ≡ d
-  unfolding startOf
+  pub start-firm : d < f → sideStart d f ≡ d
+  unfolding sideStart
   start-firm h = rw (lt-ltb d f h)
 
-  pub start-asked : f ≤ d → startOf d f ≡ d - f
-  unfolding startOf
+  pub start-asked : f ≤ d → sideStart d f ≡ d - f
+  unfolding sideStart
   start-asked h = rw (le-ltb d f h)
 
 module _ (d f a : ℕ) where
@@ -252,7 +252,7 @@ module _ (s ds : List ℕ) (ready : Ready (dealsIn s) ds) where
   held-firm : (b : ℕ) → b < mostAgents → heldIn s (countIn s) b ≡ firmSum (dealsIn s) ds ready b
   unfolding keyed
   held-firm b m =
-      sum-eq (countIn s) (λ j. pick (eqb (cellOf (dealIn s j)) b) (dealIn s j .quantity))
+      sum-eq (countIn s) (λ j. pick (eqb (sideCell (dealIn s j)) b) (dealIn s j .quantity))
       (λ j. pick (eqb (dealIn s j .buyer) b) (pick (ltb (dealIn s j .kind) demanded) (dealIn s j .quantity)))
       (λ j l. each (dealIn s j) (decLt (dealIn s j .kind) demanded) (kind-most j l))
       ∙ sym (own-in b (λ k q. pick (ltb k demanded) q))
@@ -260,20 +260,20 @@ module _ (s ds : List ℕ) (ready : Ready (dealsIn s) ds) where
       each : (k : Contract)
           → Dec (k .kind < demanded)
           → k .kind ≤ demanded
-          → pick (eqb (cellOf k) b) (k .quantity) ≡ pick (eqb (k .buyer) b) (pick (ltb (k .kind) demanded) (k .quantity))
+          → pick (eqb (sideCell k) b) (k .quantity) ≡ pick (eqb (k .buyer) b) (pick (ltb (k .kind) demanded) (k .quantity))
       each k (yes h) h3 =
-          let z : cellOf k ≡ k .buyer = omega (arith, side-firm (k .kind) h) in
+          let z : sideCell k ≡ k .buyer = omega (arith, side-firm (k .kind) h) in
           ap (λ (x : ℕ). pick (eqb x b) (k .quantity)) z
           ∙ sym (ap (pick (eqb (k .buyer) b)) (pick-lt (k .kind) demanded (k .quantity) h))
       each k (no h) h3 =
-          pick-ne (cellOf k) b (k .quantity) (λ e. omega (arith, side-demanded (k .kind) (omega arith)))
+          pick-ne (sideCell k) b (k .quantity) (λ e. omega (arith, side-demanded (k .kind) (omega arith)))
           ∙ sym (ap (pick (eqb (k .buyer) b)) (pick-ge (k .kind) demanded (k .quantity) (omega arith))
           ∙ pick-zero (eqb (k .buyer) b))
 
   held-asked : (b : ℕ) → heldIn s (countIn s) (mostAgents + b) ≡ askedSum b
   unfolding keyed
   held-asked b =
-      sum-eq (countIn s) (λ j. pick (eqb (cellOf (dealIn s j)) (mostAgents + b)) (dealIn s j .quantity))
+      sum-eq (countIn s) (λ j. pick (eqb (sideCell (dealIn s j)) (mostAgents + b)) (dealIn s j .quantity))
       (λ j. pick (eqb (dealIn s j .buyer) b) (pick (eqb (dealIn s j .kind) demanded) (dealIn s j .quantity)))
       (λ j l. each (dealIn s j) (ℕ-discrete (dealIn s j .kind) demanded) (ℕ-discrete (dealIn s j .buyer) b) (bounded .buyer j l))
       ∙ sym (own-in b (λ k q. pick (eqb k demanded) q))
@@ -282,16 +282,16 @@ module _ (s ds : List ℕ) (ready : Ready (dealsIn s) ds) where
           → Dec (k .kind ≡ demanded)
           → Dec (k .buyer ≡ b)
           → k .buyer < mostAgents
-          → pick (eqb (cellOf k) (mostAgents + b)) (k .quantity)
+          → pick (eqb (sideCell k) (mostAgents + b)) (k .quantity)
           ≡ pick (eqb (k .buyer) b) (pick (eqb (k .kind) demanded) (k .quantity))
       each k (yes h) (yes e) m =
-          pick-eq (cellOf k) (mostAgents + b) (k .quantity) (omega (arith, side-demanded (k .kind) h))
+          pick-eq (sideCell k) (mostAgents + b) (k .quantity) (omega (arith, side-demanded (k .kind) h))
           ∙ sym (pick-eq (k .buyer) b _ e ∙ pick-eq (k .kind) demanded (k .quantity) h)
       each k (yes h) (no e) m =
-          pick-ne (cellOf k) (mostAgents + b) (k .quantity) (λ z. e (omega (arith, side-demanded (k .kind) h)))
+          pick-ne (sideCell k) (mostAgents + b) (k .quantity) (λ z. e (omega (arith, side-demanded (k .kind) h)))
           ∙ sym (pick-ne (k .buyer) b _ e)
       each k (no h) e m =
-          pick-ne (cellOf k) (mostAgents + b) (k .quantity) (λ z. omega (arith, pick-ne (k .kind) demanded 1 h))
+          pick-ne (sideCell k) (mostAgents + b) (k .quantity) (λ z. omega (arith, pick-ne (k .kind) demanded 1 h))
           ∙ sym (ap (pick (eqb (k .buyer) b)) (pick-ne (k .kind) demanded (k .quantity) h) ∙ pick-zero (eqb (k .buyer) b))
 
   -- what was decided of the totals is what the sides of the section ask for
@@ -301,7 +301,7 @@ module _ (s ds : List ℕ) (ready : Ready (dealsIn s) ds) where
       → Cuts s ds decided
   decided-cuts totals decided a c =
       record {
-        start = λ b l. c .start b l ∙ ap (startOf (at ds b)) (a .each b (omega (arith, ready .agents)));
+        start = λ b l. c .start b l ∙ ap (sideStart (at ds b)) (a .each b (omega (arith, ready .agents)));
         cut =
             λ b l. c .cut b l
             ∙ ap₂ (cutOf (at ds b)) (a .each b (omega (arith, ready .agents)))
@@ -478,18 +478,18 @@ module _ (s : List ℕ) (f : ℕ → ℕ) (cells : ℕ) where
   pub added-none : BySide s f cells 0 (replicate cells 0)
   added-none =
       record {
-        each = λ b l. getD-replicate cells b 0 0 l ∙ sym (keyed-none (λ j. cellOf (dealIn s j)) f b);
+        each = λ b l. getD-replicate cells b 0 0 l ∙ sym (keyed-none (λ j. sideCell (dealIn s j)) f b);
         long = length-replicate {A = ℕ} cells 0;
       }
 
   module _ (l : List ℕ) (n v : ℕ) (in-cells : v < cells) (a : BySide s f cells n l) where
     pub added-most : (most : ℕ) → ((j : ℕ) → j < n → f j ≤ most) → at l v ≤ most * n
-    added-most most h = omega (arith, a .each v in-cells, keyed-most (λ j. cellOf (dealIn s j)) f n v most h)
+    added-most most h = omega (arith, a .each v in-cells, keyed-most (λ j. sideCell (dealIn s j)) f n v most h)
 
-    pub added-more : (q : ℕ) → v ≡ cellOf (dealIn s n) → q ≡ f n → BySide s f cells (n + 1) (set l v (at l v + q))
+    pub added-more : (q : ℕ) → v ≡ sideCell (dealIn s n) → q ≡ f n → BySide s f cells (n + 1) (set l v (at l v + q))
     added-more q e g =
         record {
-          each = keyed-put (λ j. cellOf (dealIn s j)) f n cells l v q e g in-cells (a .long) (a .each);
+          each = keyed-put (λ j. sideCell (dealIn s j)) f n cells l v q e g in-cells (a .long) (a .each);
           long = length-set l v (at l v + q) ∙ a .long;
         }
 
@@ -506,7 +506,7 @@ decided-none ds before =
 pub decided-more : (ds before now : List ℕ) (b x y : ℕ)
     → b < mostAgents
     → length now ≡ 2 * mostAgents
-    → x ≡ startOf (at ds b) (at now b)
+    → x ≡ sideStart (at ds b) (at now b)
     → y ≡ cutOf (at ds b) (at now b) (at now (mostAgents + b))
     → Decided b ds before now
     → Decided (b + 1) ds before (set (set now b x) (mostAgents + b) y)
@@ -531,10 +531,10 @@ decided-more ds before now b x y m long e f c =
     start-at : (a : ℕ)
         → a < b + 1
         → Dec (a ≡ b)
-        → at (set (set now b x) (mostAgents + b) y) a ≡ startOf (at ds a) (at before a)
+        → at (set (set now b x) (mostAgents + b) y) a ≡ sideStart (at ds a) (at before a)
     start-at a l (yes z) =
         rw z (getD-set-other (set now b x) (mostAgents + b) b y 0 (λ z. omega arith)
-        ∙ getD-set-same now b x 0 (omega (arith, long)) ∙ e ∙ ap (startOf (at ds b)) (old .0))
+        ∙ getD-set-same now b x 0 (omega (arith, long)) ∙ e ∙ ap (sideStart (at ds b)) (old .0))
     start-at a l (no z) = other a (λ v. z (omega arith)) (λ v. omega arith) ∙ c .start a (omega arith)
 
     cut-at-one : (a : ℕ)

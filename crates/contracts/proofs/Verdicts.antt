@@ -22,7 +22,7 @@ use Rattle.deals.specs.Hour.{hourAmount}
 use Rattle.contracts.specs.Assign.{countIn, dealIn, dealsIn, sectionFits, dealGood, dealVerdict}
 use Rattle.contracts.specs.Assign.{layoutVerdict, dealsVerdict, amountsVerdict, assignVerdict, Assigned}
 use Rattle.contracts.specs.Keys.{rowCount, Ready}
-use Rattle.contracts.specs.Sides.{Totalled}
+use Rattle.contracts.specs.Sides.{SidesTotalled}
 use Rattle.contracts.proofs.Section.{count-is, buyer-in, kind-in, price-in, quantity-in}
 
 -- ---- what the layout's test tells
@@ -131,7 +131,7 @@ module _ (s : List ℕ) (agents i : ℕ) (l : i < countIn s)
       → v ≡ refused badContract i
       → good ≡ false
       → (totals counts : List ℕ)
-      → Totalled (dealsVerdict s agents) s v totals counts
+      → SidesTotalled (dealsVerdict s agents) s v totals counts
   row-stop v e f totals counts =
       record {
         answer =
@@ -148,7 +148,7 @@ module _ (s ds out : List ℕ) where
   pub judge-layout : (v : Verdict) (totals counts : List ℕ)
       → v ≡ refused badLayout 0
       → sectionFits s ds ≡ false
-      → Totalled (assignVerdict s ds out) s v totals counts
+      → SidesTotalled (assignVerdict s ds out) s v totals counts
   judge-layout v totals counts e f =
       record {
         answer =
@@ -161,9 +161,9 @@ module _ (s ds out : List ℕ) where
   -- a bad row is told before a short list
   pub judge-rest : (v w x : Verdict) (fits : Bool) (totals counts : List ℕ)
       → sectionFits s ds ≡ true
-      → Totalled (dealsVerdict s (length ds)) s v totals counts
+      → SidesTotalled (dealsVerdict s (length ds)) s v totals counts
       → fits ≡ leb (countIn s) (length out) → w ≡ refusedUnless fits noRoom 0 → x ≡ orElse v w
-      → Totalled (assignVerdict s ds out) s x totals counts
+      → SidesTotalled (assignVerdict s ds out) s x totals counts
   judge-rest v w x fits totals counts good k f g e =
       record {
         answer = rw (e, k .answer, g, f, good, else-fine);

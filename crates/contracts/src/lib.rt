@@ -18,7 +18,7 @@ ghost use Rattle.refusals.specs.Refusals.{refusedUnless, orElse, noRoom};
 ghost use Rattle.rows.specs.Limits.{mostContracts};
 ghost use Rattle.contracts.specs.Assign.{countIn, dealIn, dealsIn, sectionFits, assignVerdict, Assigned};
 ghost use Rattle.contracts.specs.Keys.{rowSpan, dealKey, keyIn, keyRow, Ready};
-ghost use Rattle.contracts.specs.Sides.{AddedUp, Numbered, Totalled, Cuts, isCut, FrontKeys, Picked, Cut, AllAssigned};
+ghost use Rattle.contracts.specs.Sides.{AddedUp, Numbered, SidesTotalled, Cuts, isCut, FrontKeys, Picked, Cut, AllAssigned};
 ghost use Rattle.contracts.specs.Walk.{Rowed, Scattered};
 
 // ---- the key of each row, by which the rows are put in order
@@ -80,9 +80,15 @@ fn or_else(v: Verdict, w: Verdict) -> Verdict
 
 // A bad row is told before a short list. Where nothing is wrong, the totals have what each side of each buyer holds, and the counts in how
 // many rows.
-fn judge(section: &[u8], demands: &[u32], out: &[u32], totals: &mut [u32], counts: &mut [u32]) -> Verdict
+fn judge(
+    section: &[u8],
+    demands: &[u32],
+    out: &[u32],
+    totals: &mut [u32],
+    counts: &mut [u32],
+) -> Verdict
     requires { ⌜ AddedUp (now section) 0 (now totals) × Numbered (now section) 0 (now counts) ⌝ }
-    ensures { λ r. ⌜ Totalled (assignVerdict (now (section .entry)) (now (demands .entry)) (now (out .entry)))
+    ensures { λ r. ⌜ SidesTotalled (assignVerdict (now (section .entry)) (now (demands .entry)) (now (out .entry)))
         (now (section .entry)) r (now (totals .exit)) (now (counts .exit)) ⌝ }
 {
     if !layout_good(section, demands) {
@@ -181,7 +187,8 @@ fn assign_some(section: &[u8], decided: &[u32], counts: &[u32], demands: &[u32],
 // Rows that nothing is wrong with, from what the sides hold.
 fn assign_all(section: &[u8], totals: &mut [u32], counts: &[u32], demands: &[u32], out: &mut [u32])
     requires { ⌜ Ready (dealsIn (now section)) (now demands) × (countIn (now section) ≤ length (now out)) ⌝ }
-    requires { ⌜ AddedUp (now section) (countIn (now section)) (now totals) × Numbered (now section) (countIn (now section)) (now counts) ⌝ }
+    requires { ⌜ AddedUp (now section) (countIn (now section)) (now totals)
+        × Numbered (now section) (countIn (now section)) (now counts) ⌝ }
     ensures { λ _. ⌜ AllAssigned (now (section .entry)) (now (demands .entry)) (now (out .entry)) (now (out .exit)) ⌝ }
 {
     if sides::decide(demands, totals) {
