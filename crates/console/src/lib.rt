@@ -90,10 +90,10 @@ fn run_word(word: &[u8], next: usize, end: usize)
 }
 
 // What the program's words from number `first` up to, not including, `end` ask for: the command is word `first`, and what it is about
-// stands behind it.
+// stands behind it. With no words the page of the sheet on standard input.
 pub fn run_words(first: usize, end: usize) {
     if end <= first {
-        say_usage();
+        settle_input();
         return;
     }
     let mut word = [0u8; 16];
@@ -101,12 +101,7 @@ pub fn run_words(first: usize, end: usize) {
     run_word(&word[..n], first + 1, end);
 }
 
-// With no words the page of the sheet on standard input; else what they ask for. Word 0 is the program's own name.
+// What all words behind the program's own name ask for.
 pub fn run() {
-    let count = os::arg_count();
-    if count < 2 {
-        settle_input();
-    } else {
-        run_words(1, count);
-    }
+    run_words(1, os::arg_count());
 }

@@ -1,6 +1,7 @@
 // The desk's words, one command after another in one process: a program loads every proof below it, so one that runs them all is checked
-// in the time of one. Its own words are the commands, with `+` between. Each is printed as a heading, and then the desk does what it asks
-// for. `show FILE` is none of the desk's: it prints the bytes of a file and a line end, or that there is no such file.
+// in the time of one. Its own words are the commands, with `+` between; a command of no words settles the standard input. Each is printed
+// as a heading, and then the desk does what it asks for. `show FILE` is none of the desk's: it prints the bytes of a file and a line end,
+// or that there is no such file.
 use channels::say;
 
 fn is_word(i: usize, text: &[u8]) -> bool {
@@ -44,9 +45,6 @@ fn show(i: usize) {
 
 // The command that the words from `first` up to, not including, `end` are.
 fn run_command(first: usize, end: usize) {
-    if end <= first {
-        return;
-    }
     say_heading(first, end);
     if is_word(first, b"show") {
         show(first + 1);

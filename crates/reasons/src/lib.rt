@@ -141,7 +141,7 @@ fn settle_hour(bytes: &[u8], c: Counts, schedule: &mut [u32], amounts: &mut [u32
 {
     let mut figures = [0u32; Agent::CELLS * Agent::MOST];
     let mut money = [0i64; Agent::MOST];
-    settle::settle(bytes, &mut figures, &mut money, schedule, amounts)
+    settle::settle_read(bytes, c, &mut figures, &mut money, schedule, amounts)
 }
 
 // Of an accepted sheet.

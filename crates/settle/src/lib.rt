@@ -19,7 +19,7 @@ ghost use Rattle.sheet.specs.declared.Reading.{Reading};
 ghost use Rattle.columns.specs.Columns.{columnsOf};
 ghost use Rattle.balance.specs.Balances.{zeros};
 ghost use Rattle.settle.specs.Parts.{Covered, Demanding, Trades, turnedAway};
-ghost use Rattle.settle.specs.Settled.{lent, Settles, Settled};
+ghost use Rattle.settle.specs.Settled.{lent, Settled};
 
 fn turned_away(r: Refusal) -> Summary
     ensures { λ s. ⌜ s ≡ turnedAway r ⌝ }
@@ -56,7 +56,7 @@ fn trade(
 }
 
 // Settles the hour of a sheet that reading accepts with these counts.
-fn settle_read(
+pub fn settle_read(
     bytes: &[u8],
     c: Counts,
     figures: &mut [u32],
@@ -65,7 +65,7 @@ fn settle_read(
     amounts: &mut [u32],
 ) -> Summary
     requires { ⌜ readOf (now bytes) ≡ Reading.Accepted c ⌝ }
-    ensures { λ r. ⌜ Settles (columnsOf (now (bytes .entry)) c)
+    ensures { λ r. ⌜ Settled (now (bytes .entry))
         (lent (now (figures .entry)) (now (money .entry)) (now (schedule .entry)) (now (amounts .entry)))
         (lent (now (figures .exit)) (now (money .exit)) (now (schedule .exit)) (now (amounts .exit)))
         r ⌝ }

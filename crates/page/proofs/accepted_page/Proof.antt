@@ -78,7 +78,7 @@ returns c =
     room-for (now (a .sheet)) (a .c) (at-start .pre) before (le-refl (6 * mostAgents)) (le-refl mostAgents)
     (le-refl mostPlants) (le-refl mostContracts) in
     let small : n ≤ mostAgents = w .agents in
-    let s = at-settle .settle in
+    let s = at-settle .settle-read in
     let k = at-fill-kinds .fill-kinds in
     let e =
     settled-page (now (a .sheet)) (a .c) counts (s .result) before (replicate mostAgents 0) _ _ _ _ _ room

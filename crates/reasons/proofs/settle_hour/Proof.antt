@@ -20,7 +20,7 @@ returns c =
     settled-hour (now (a .bytes)) (a .c) (at-start .pre .0)
     (lent (replicate (cellsPerAgent * mostAgents) 0) (replicate mostAgents (pos 0)) (now (a .schedule)) (now (a .amounts)))
     _ _ (le-refl (cellsPerAgent * mostAgents)) (le-refl mostAgents) (at-start .pre .1 .0) (at-start .pre .1 .1)
-    (at-settle .settle .ensures)
+    (at-settle .settle-read .ensures)
 
 pub settle-hour-spec : {M : Type 1} → statement M
 settle-hour-spec =

@@ -6,7 +6,7 @@ use Rattle.sheet.specs.Reading.{readOf}
 use Rattle.sheet.specs.declared.Reading.{Reading}
 use Rattle.hour.specs.Answer.{Lent}
 use Rattle.settle.specs.Settled.{lent, verdictOf}
-use Rattle.settle.proofs.Judged.{settled-read, refused-read, turned-away}
+use Rattle.settle.proofs.Judged.{refused-read, turned-away}
 use Rattle.settle.proofs.settle.Statement.{statement}
 use Rattle.settle.proofs.settle.Tie as tie
 
@@ -26,10 +26,7 @@ settle-read-requires : tie.Need-settle-read-requires
 settle-read-requires c κs = accepted (c .before .before .before .before .before)
 
 returns : tie.Need-returns
-returns c =
-    let at-settle-read = c .before .before .before .before .before .before .before in
-    let at-c = at-settle-read .before .before .before .before .before .before in
-    settled-read _ _ _ _ _ (accepted at-c) (at-settle-read .settle-read .ensures)
+returns c = let at-settle-read = c .before .before .before .before .before .before .before in at-settle-read .settle-read .ensures
 
 returns-2 : tie.Need-returns-2
 returns-2 c =

@@ -24,7 +24,7 @@ use Rattle.ground.specs.Ground.{buys}
 use Rattle.ground.proofs.Admitted.{Open, opened}
 use Rattle.settle.specs.Settled.{lent}
 use Rattle.settle.proofs.Stages.{figures-are, money-are, lines-fit}
-use Rattle.settle.proofs.Judged.{demands-are, turned-away}
+use Rattle.settle.proofs.Judged.{demands-are, settled-read, turned-away}
 use Rattle.settle.proofs.settle_read.Statement.{statement}
 use Rattle.settle.proofs.settle_read.Tie as tie
 
@@ -85,9 +85,10 @@ returns c =
     let at-imports = at-admit .before .before .before .before .before in
     let at-kinds = at-imports .before .before .before .before in
     let at-start = at-kinds .before .before .before .before .before in
-    rw (c .turned-away .ensures)
+    settled-read _ _ _ _ _ (at-start .pre)
+    (rw (c .turned-away .ensures)
     (turned-away (hourVerdict (sheet at-start) (lists at-start)) _ _ _
-    (sym (at-admit .admit .ensures .answer) ∙ (at-told .before) .verdict .given .1))
+    (sym (at-admit .admit .ensures .answer) ∙ (at-told .before) .verdict .given .1)))
 
 -- ---- an hour that nothing turns away
 fine : (c : tie.After-enum-told) → hourVerdict (sheet (told-to-start c)) (lists (told-to-start c)) ≡ Verdict.Fine
@@ -213,14 +214,15 @@ returns-2 c =
     money-are h _ (count at-start) (w .kinds) (w .shares) (energy at-trade) (w .imports) (held at-trade)
     (kinds-are at-told) (shares-are at-told) (owns at-trade) (imports-are at-told) (holds at-trade) in
     let l = at-write-lines .write-lines .ensures in
-    rw (fine at-told)
+    settled-read _ _ _ _ _ (at-start .pre)
+    (rw (fine at-told)
     (record {
       answered = rw (← t .generates .price, ← o .demand, ← o .losses);
       figures = f _ _ (l .0);
       money = m _ (t .generates .price) _ _ (l .1);
       schedule = t .generates .schedule;
       amounts = t .agrees .amounts;
-    })
+    }))
 
 pub settle-read-spec : {M : Type 1} → statement M
 settle-read-spec =

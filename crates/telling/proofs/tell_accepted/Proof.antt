@@ -11,7 +11,7 @@ returns c =
     let at-settle = c .before .before .before .before .before .before in
     let at-start = at-settle .before .before .before .before .before .before .before in
     let a = at-start .args in
-    let u = at-settle .settle in
+    let u = at-settle .settle-read in
     told-refusal (now (a .sheet)) (now (a .out)) (refusal (u .result .number) (u .result .place))
     (turned-away (now (a .sheet)) (u .result) fresh _ (fresh-room (now (a .sheet)) (a .c) (at-start .pre)) (u .ensures) (c .if1 .taken))
 
@@ -22,7 +22,7 @@ returns-2 c =
     let at-settle = at-else .before .before .before .before .before .before in
     let at-start = at-settle .before .before .before .before .before .before .before in
     let a = at-start .args in
-    let u = at-settle .settle in
+    let u = at-settle .settle-read in
     told-statement (now (a .sheet)) (a .c) (at-start .pre) (u .result) _ (u .ensures) (at-else .if1 .left) (now (a .out)) _ _
     (at-write .write .ensures)
 
