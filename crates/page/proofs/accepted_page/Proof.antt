@@ -85,14 +85,14 @@ returns c =
     (omega arith) (omega arith) (omega arith)
     (s .ensures) (k .ensures) in
     let hk : length (k .last .1 .1 .0) ≡ mostAgents = search needs in
-    let hf : length (s .last .1 .0) ≡ 6 * mostAgents = search needs in
-    let hm : length (s .last .1 .1 .0) ≡ mostAgents = search needs in
+    let hf : length (s .last .1 .1 .0) ≡ 6 * mostAgents = search needs in
+    let hm : length (s .last .1 .1 .1 .0) ≡ mostAgents = search needs in
     let ks = take n (k .last .1 .1 .0) in
-    let fs = take (6 * n) (s .last .1 .0) in
-    let ms = take n (s .last .1 .1 .0) in
+    let fs = take (6 * n) (s .last .1 .1 .0) in
+    let ms = take n (s .last .1 .1 .1 .0) in
     let lk : length ks ≡ n = length-take-le n (k .last .1 .1 .0) (omega arith) in
-    let lf : length fs ≡ 6 * n = length-take-le (6 * n) (s .last .1 .0) (omega arith) in
-    let lm : length ms ≡ n = length-take-le n (s .last .1 .1 .0) (omega arith) in
+    let lf : length fs ≡ 6 * n = length-take-le (6 * n) (s .last .1 .1 .0) (omega arith) in
+    let lm : length ms ≡ n = length-take-le n (s .last .1 .1 .1 .0) (omega arith) in
     let few-kinds : length ks ≤ mostAgents = omega arith in
     let all-figures : 6 * length ks ≤ length fs = omega arith in
     let all-money : length ks ≤ length ms = omega arith in
