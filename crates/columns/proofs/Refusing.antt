@@ -3,9 +3,10 @@
 use Prim.Native.Nat.{ℕ, _*_, _≤_, _<_}
 use native.Mathlib.Omega.{arith}
 use mathlib.Core.List.{List}
-use mathlib.Core.Path.{_≡_, refl, sym}
+use mathlib.Core.Path.{_≡_, refl, sym, ap, _∙_}
 use lib.ListN.{length}
 use Rattle.refusals.specs.Refusals.{orElse, numberOf}
+use Rattle.refusals.specs.declared.Refusal.{Refusal}
 use Rattle.refusals.specs.declared.Verdict.{Verdict}
 use Rattle.rows.specs.Limits.{mostAgents, mostPlants, mostContracts}
 use Rattle.sheet.specs.Reading.{countsOf, readVerdict, readOf}
@@ -41,6 +42,20 @@ none-fine bytes =
     (or-none (balanceVerdict h) (orElse (coverVerdict h) Verdict.Fine)
     (none-of 7 9 (balanceVerdict h) (omega arith) (balance-between h))
     (or-none (coverVerdict h) Verdict.Fine (none-of 10 13 (coverVerdict h) (omega arith) (cover-between h)) (λ e. refl)))
+
+-- fine, or refused with a number above 0
+unfoldable pub Told : Verdict → Type 0
+Told v = (q : Refusal) → v ≡ Verdict.Refused q → q .number ≡ 0 → ⊥
+
+pub told : (v : Verdict) → (numberOf v ≡ 0 → v ≡ Verdict.Fine) → Told v
+unfolding Told
+told v f q e z =
+    let fine : v ≡ Verdict.Fine = f (ap (λ (w : Verdict). numberOf w) e ∙ z) in
+    let no : _≡_ {A = ℕ} 0 1 = cc in
+    omega arith
+
+pub told-all : (bytes : List ℕ) → Told (sheetVerdict bytes)
+told-all bytes = told (sheetVerdict bytes) (none-fine bytes)
 
 -- ---- with room
 pub room-for : (bytes : List ℕ) (c : Counts) → readOf bytes ≡ Reading.Accepted c → (l : Lent)

@@ -29,9 +29,9 @@ use Rattle.hour.proofs.Fits.{mostBought, contracted-le, demand-most, own-le, bo
 use Rattle.hour.proofs.Money.{money-pos, money-neg}
 use Rattle.columns.specs.Columns.{columnsOf, hourOf, sheetVerdict}
 use Rattle.columns.proofs.Columns.{agents-long, kind-at, sound}
+use Rattle.columns.proofs.Refusing.{Told, told-all}
 use Rattle.printing.proofs.Length.{ShortLine, ShortPage, refused-page, hour-page}
 use Rattle.page.specs.Page.{pageText}
-use Rattle.page.proofs.Paged.{Told, told-all}
 
 -- ---- money: at most 2,560,000,000 kWh either way, at the highest offer
 abs-neg : (x : ℕ) → natAbs (negℤ (pos x)) ≡ x

@@ -26,7 +26,7 @@ use Rattle.columns.specs.Columns.{columnsOf, hourOf, sheetVerdict}
 use Rattle.columns.proofs.Columns.{agents-long}
 use Rattle.refusals.proofs.Fine.{else-fine}
 use Rattle.columns.proofs.Numbers.{read-between}
-use Rattle.columns.proofs.Refusing.{none-of, none-fine, room-enough}
+use Rattle.columns.proofs.Refusing.{Told, told, told-all, none-of, room-enough}
 use Rattle.settle.specs.Settled.{lent, verdictOf, Settled}
 use Rattle.printing.specs.Page.{pageOf, printVerdict, printed}
 use Rattle.printing.specs.declared.Printed.{Printed}
@@ -61,20 +61,6 @@ same-lists : (r : Summary) (k f k′ f′ : List ℕ) (m m′ : List ℤ)
     → m ≡ m′
     → pageOf r k f m ≡ pageOf r k′ f′ m′
 same-lists r k f k′ f′ m m′ p q s = cc
-
--- fine, or refused with a number above 0
-unfoldable pub Told : Verdict → Type 0
-Told v = (q : Refusal) → v ≡ Verdict.Refused q → q .number ≡ 0 → ⊥
-
-told : (v : Verdict) → (numberOf v ≡ 0 → v ≡ Verdict.Fine) → Told v
-unfolding Told
-told v f q e z =
-    let fine : v ≡ Verdict.Fine = f (ap (λ (w : Verdict). numberOf w) e ∙ z) in
-    let no : _≡_ {A = ℕ} 0 1 = cc in
-    omega arith
-
-pub told-all : (bytes : List ℕ) → Told (sheetVerdict bytes)
-told-all bytes = told (sheetVerdict bytes) (none-fine bytes)
 
 -- a sheet that reading refuses
 pub refused-read : (bytes : List ℕ) (q : Refusal)

@@ -29,8 +29,7 @@ use Rattle.settle.specs.Settled.{lent, verdictOf, Settled}
 use Rattle.printing.specs.Page.{Prints}
 use Rattle.printing.specs.declared.Printed.{Printed}
 use Rattle.printing.proofs.Printing.{one-outcome as printed-once}
-use Rattle.columns.proofs.Refusing.{room-enough, room-for}
-use Rattle.page.proofs.Paged.{Told, told-all}
+use Rattle.columns.proofs.Refusing.{Told, told-all, room-enough, room-for}
 use Rattle.telling.specs.Text.{statementText, statementVerdict}
 use Rattle.telling.specs.Tell.{ownLists, ownStatement, tellVerdict}
 use Rattle.telling.specs.Enough.{Enough}
