@@ -2,12 +2,11 @@
 use Prim.Native.Nat.{ℕ}
 use mathlib.Core.Path.{_≡_, sym, _∙_}
 use mathlib.Core.List.{List}
-use lib.IntN.{pos}
 use Rattle.sums.proofs.Fill.{filled-unique}
 use Rattle.refusals.specs.declared.Verdict.{Verdict}
 use Rattle.hour.specs.Answer.{Lent}
 use Rattle.writing.specs.Numbers.{Numbers}
-use Rattle.settle.specs.Settled.{lent}
+use Rattle.settle.proofs.Judged.{outcome-unique}
 use Rattle.capi.specs.Told.{Told, BytesTold, ShareTold, ReadTold, CheckTold, WriteTold, SettleTold, PageTold}
 use Rattle.capi.specs.Why.{WhyPlantTold, WhyContractTold}
 
@@ -72,20 +71,4 @@ pub settle-unique : (sheet : List ℕ) (before x y : Lent) (list list₁ list₂
     × (list₁ ≡ list₂)
 settle-unique sheet before x y list list₁ list₂ r r′ h k =
     let t = told-unique _ _ list list₁ list₂ r r′ (h .told) (k .told) in
-    let o = h .hour in
-    let p = k .hour in (
-      t .0,
-      same x y (filled-unique 0 _ _ _ _ _ (o .figures) (p .figures))
-          (filled-unique (pos 0) _ _ _ _ _ (o .money) (p .money))
-          (filled-unique 0 _ _ _ _ _ (o .schedule) (p .schedule)) (filled-unique 0 _ _ _ _ _ (o .amounts) (p .amounts)),
-      t .1,
-    )
-  where
-    same : (x y : Lent)
-        → x .figures ≡ y .figures
-        → x .money ≡ y .money
-        → x .schedule ≡ y .schedule
-        → x .amounts ≡ y .amounts
-        → lent (x .figures) (x .money) (x .schedule) (x .amounts)
-        ≡ lent (y .figures) (y .money) (y .schedule) (y .amounts)
-    same x y f m s a = rw (f, m, s, a)
+    (t .0, outcome-unique _ _ before x y _ _ (h .hour) (k .hour) .1, t .1)

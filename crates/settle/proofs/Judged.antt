@@ -61,14 +61,14 @@ turned-away v h l r e =
     }
 
 -- ---- two outcomes that meet the promise are one
-pub settled-unique : (bytes : List ℕ) (before x y : Lent) (q r : Summary)
-    → Settled bytes before x q
-    → Settled bytes before y r
+pub outcome-unique : (v : Verdict) (h : Sheet) (before x y : Lent) (q r : Summary)
+    → Outcome v h before x q
+    → Outcome v h before y r
     → (q ≡ r) × (x ≡ y)
-settled-unique bytes before x y q r h k = (
-  h .answered ∙ sym (k .answered),
-  same x y (filled-unique 0 _ _ _ _ _ (h .figures) (k .figures)) (filled-unique (pos 0) _ _ _ _ _ (h .money) (k .money))
-      (filled-unique 0 _ _ _ _ _ (h .schedule) (k .schedule)) (filled-unique 0 _ _ _ _ _ (h .amounts) (k .amounts)),
+outcome-unique v h before x y q r o p = (
+  o .answered ∙ sym (p .answered),
+  same x y (filled-unique 0 _ _ _ _ _ (o .figures) (p .figures)) (filled-unique (pos 0) _ _ _ _ _ (o .money) (p .money))
+      (filled-unique 0 _ _ _ _ _ (o .schedule) (p .schedule)) (filled-unique 0 _ _ _ _ _ (o .amounts) (p .amounts)),
 )
   where
     same : (x y : Lent)
@@ -79,3 +79,9 @@ settled-unique bytes before x y q r h k = (
         → lent (x .figures) (x .money) (x .schedule) (x .amounts)
         ≡ lent (y .figures) (y .money) (y .schedule) (y .amounts)
     same x y f m s a = rw (f, m, s, a)
+
+pub settled-unique : (bytes : List ℕ) (before x y : Lent) (q r : Summary)
+    → Settled bytes before x q
+    → Settled bytes before y r
+    → (q ≡ r) × (x ≡ y)
+settled-unique bytes before x y q r = outcome-unique _ _ before x y q r
