@@ -9,7 +9,7 @@ use Rattle.sums.specs.Sums.{keyed}
 use Rattle.sums.specs.Lists.{at, listTo, Filled}
 use Rattle.sums.proofs.Keyed.{keyed-absent, keyed-eq, keyed-most, keyed-beside}
 use Rattle.sums.proofs.Lists.{length-listTo, listTo-eq, zeros-at}
-use Rattle.sums.proofs.Fill.{filled-count, filled-by}
+use Rattle.sums.proofs.Fill.{filled-count, filled-none, filled-by}
 use Rattle.refusals.specs.Refusals.{cells}
 use Rattle.refusals.specs.declared.Verdict.{Verdict}
 use Rattle.rows.specs.Limits.{mostAgents, mostQuantity}
@@ -33,7 +33,7 @@ use Rattle.hour.proofs.Balance.{contracted-both}
 use Rattle.columns.specs.Columns.{columnsOf}
 use Rattle.columns.proofs.Columns.{agents-long, contracts-long, seller-at, buyer-at, sound}
 use Rattle.balance.specs.Balances.{zeros}
-use Rattle.settle.specs.Parts.{Holding, HeldByAgent}
+use Rattle.settle.specs.Parts.{Holding, HeldByAgent, Agrees}
 
 demands-long : (h : Sheet) → length (demands h) ≡ agents h
 unfolding demands
@@ -186,6 +186,31 @@ module _ (s : List ℕ) (c : Counts) (e : readOf s ≡ Reading.Accepted c) (sec 
           rest : (a : ℕ) → agents h ≤ a → Dec (a < mostAgents) → at sums a ≡ 0
           rest a m (yes l) = w .each a l ∙ both a ∙ nobody a m
           rest a m (no l) = List·getD-eq-default sums 0 (omega (arith, w .long))
+
+-- ---- no contracts: no cell is written
+pub none-agreed : (s : List ℕ) (c : Counts) → readOf s ≡ Reading.Accepted c → (before : List ℕ)
+    → c .contracts ≡ 0
+    → Agrees (columnsOf s c) zeros before before
+none-agreed s c e before z =
+    let sec = sectionOf s c 4 in
+    let rows : countIn sec ≡ 0 = count s c e sec refl ∙ z in
+    let f : Filled 0 before before (c .contracts) (amount (columnsOf s c)) = filled-count 0 _ _ 0 _ _ (sym z) (filled-none 0 _ _) in
+    let nobody : (who : ℕ → ℕ) (a : ℕ) → keyed who (at before) (countIn sec) a ≡ 0 = λ who a.
+    keyed-absent who (at before) (countIn sec) a (λ j l q. omega (arith, rows)) in
+    record {
+      contracted =
+          contracted-are s c e sec refl before before (omega arith) f zeros
+          (record {
+            each = λ a m. omega (
+              arith,
+              zeros-at mostAgents a,
+              nobody (λ j. dealIn sec j .buyer) a,
+              nobody (λ j. dealIn sec j .seller) a,
+            );
+            long = refl;
+          });
+      amounts = filled-count 0 _ _ _ _ _ (sym (contracts-long s c)) f;
+    }
 
 -- ---- the pass over the rows, at row j, which says k
 module _ (section amounts : List ℕ) where

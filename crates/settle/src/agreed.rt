@@ -27,7 +27,7 @@ fn hold(section: &[u8], amounts: &[u32], held: &mut [u32])
     }
 }
 
-// The amounts of all contracts into the lent list, and what each agent holds under contract.
+// The amounts of all contracts into the lent list, and what each agent holds under contract. Where there are none no scratch is cleared.
 pub(crate) fn agree(
     bytes: &[u8],
     c: Counts,
@@ -40,6 +40,9 @@ pub(crate) fn agree(
     ensures { λ _. ⌜ Agrees (columnsOf (now (bytes .entry)) c) (now (contracted .exit))
         (now (amounts .entry)) (now (amounts .exit)) ⌝ }
 {
+    if c.contracts == 0 {
+        return;
+    }
     let section = sheet::asking::section_of(bytes, c, Contract::SECTION);
     contracts::assign(section, demands, amounts);
     hold(section, amounts, contracted);

@@ -9,13 +9,13 @@ use Rattle.columns.specs.Columns.{columnsOf}
 use Rattle.columns.proofs.Columns.{contracts-long}
 use Rattle.hour.specs.Sheet.{Sheet, contracts}
 use Rattle.hour.specs.Lines.{amount}
-use Rattle.settle.proofs.Holdings.{amounts-are, holding, contracted-are}
+use Rattle.settle.proofs.Holdings.{amounts-are, holding, contracted-are, none-agreed}
 use Rattle.settle.proofs.agreed.agree.Statement.{statement}
 use Rattle.settle.proofs.agreed.agree.Tie as tie
 
 -- ways back: X-to-Y leads from the place X of the code to the earlier place Y
 abbrev section-to-start : tie.After-section-of → tie.Start
-section-to-start c = c .before .before .before .before .before
+section-to-start c = c .before .before .before .before .before .before .before
 
 abbrev assign-to-section : tie.After-assign → tie.After-section-of
 assign-to-section c = c .before .before
@@ -55,8 +55,15 @@ hold-requires c κs =
 same-length-2 : tie.Need-same-length-2
 same-length-2 c = (c .before .before) .hold .ensures .long ∙ sym (ap length (assign-to-start (known4-to-assign c) .pre .1 .1))
 
+-- ---- where there are no contracts nobody holds anything
 returns : tie.Need-returns
 returns c =
+    let s = c .before .before .before .before .before .before in
+    rw (s .pre .1 .1) (none-agreed _ _ (s .pre .0) _ (c .if1 .taken))
+
+-- ---- where there are some
+returns-2 : tie.Need-returns-2
+returns-2 c =
     let a = known4-to-assign c in
     let s = assign-to-start a in
     record {
@@ -69,4 +76,4 @@ returns c =
 pub agree-spec : {M : Type 1} → statement M
 agree-spec =
     tie.close
-    (tie.spec (λ c κs. search needs) (λ c κs. search needs) hold-requires (λ c. search needs) same-length-2 returns)
+    (tie.spec returns (λ c κs. search needs) (λ c κs. search needs) hold-requires (λ c. search needs) same-length-2 returns-2)
