@@ -1,6 +1,3 @@
-pub mod Places
-pub mod Steps
-pub mod Insert
 pub mod Scan
 pub mod Decode
 pub mod Walks

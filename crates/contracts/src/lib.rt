@@ -4,7 +4,6 @@ use refusals::Verdict;
 use rows::Agent;
 use rows::Contract;
 
-mod order;
 mod sides;
 mod walk;
 
@@ -28,9 +27,7 @@ pub(crate) const ROW_SPAN: u64 = 256;
 
 const PRICE_SPAN: u64 = 1048576;
 
-// How far the bit for kind 3, and the buyer, stand from its end.
-pub(crate) const SIDE_SPAN: u64 = 536870912;
-
+// How far the buyer stands from its end; how far the bit for kind 3 does, `order` says.
 pub(crate) const BUYER_SPAN: u64 = 1073741824;
 
 // 1 for a row of the kind asked for, 0 for any other.
@@ -153,21 +150,19 @@ fn serve(section: &[u8], keys: &[u64], n: usize, decided: &[u32], demands: &[u32
 fn assign_cut(
     section: &[u8],
     keys: &mut [u64],
-    n: usize,
     most: u32,
     decided: &[u32],
     demands: &[u32],
     out: &mut [u32],
 )
-    requires { ⌜ Ready (dealsIn (now section)) (now demands) × (countIn (now section) ≤ length (now out))
-        × (countIn (now section) ≤ length (now keys)) ⌝ }
+    requires { ⌜ Ready (dealsIn (now section)) (now demands) × (countIn (now section) ≤ length (now out)) ⌝ }
     requires { ⌜ Cuts (now section) (now demands) (now decided)
-        × FrontKeys (isCut (now decided)) (keyIn (now section)) (countIn (now section)) n (now keys) ⌝ }
+        × FrontKeys (isCut (now decided)) (keyIn (now section)) (countIn (now section)) (length (now keys)) (now keys) ⌝ }
     ensures { λ _. ⌜ Cut (now (section .entry)) (now (demands .entry)) (isCut (now (decided .entry)))
         (now (out .entry)) (now (out .exit)) ⌝ }
 {
-    order::sort(keys, n, most);
-    serve(section, keys, n, decided, demands, out);
+    order::sort(keys, most);
+    serve(section, keys, keys.len(), decided, demands, out);
 }
 
 // Where some side is cut: the rows of the others at once, then its own.
@@ -181,7 +176,7 @@ fn assign_some(section: &[u8], decided: &[u32], counts: &[u32], demands: &[u32],
     let most = next[Agent::MOST];
     let mut keys = [0u64; Contract::MOST];
     sides::part(section, decided, &mut next, &mut keys, out);
-    assign_cut(section, &mut keys, n, most, decided, demands, out);
+    assign_cut(section, &mut keys[..n], most, decided, demands, out);
 }
 
 // Rows that nothing is wrong with, from what the sides hold.

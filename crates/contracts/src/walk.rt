@@ -38,7 +38,7 @@ pub(crate) fn buyer_of(k: u64) -> usize
 fn demanded(k: u64) -> bool
     ensures { λ r. ⌜ r ≡ isDemanded k ⌝ }
 {
-    k / crate::SIDE_SPAN % 2 == 1
+    k / order::SIDE_SPAN % 2 == 1
 }
 
 fn fixed(k: u64) -> bool

@@ -1,6 +1,8 @@
+use mathlib.Core.Path.{sym}
 use native.Mathlib.Omega.{arith}
+use lib.Seq.{length-take-le}
 use borrow.Author.Needs.{needs}
-use Rattle.contracts.proofs.Section.{few-rows}
+use Rattle.contracts.proofs.Section.{front-alone}
 use Rattle.contracts.proofs.Uncut.{bounded, cut-full}
 use Rattle.contracts.proofs.Spots.{decided-most, spots-few, spots-next, spots-front}
 use Rattle.contracts.proofs.assign_some.Statement.{statement}
@@ -13,8 +15,8 @@ next-to-start c = c .before .before .before .before .before .before
 abbrev part-arg-to-spots : tie.After-part-arg → tie.After-spots
 part-arg-to-spots c = c .before .before .before .before
 
-abbrev cut-arg-to-part : tie.After-assign-cut-arg → tie.After-part
-cut-arg-to-part c = c .before .before .before .before .before .before
+abbrev part-known-to-part : tie.After-slice-known2 → tie.After-part
+part-known-to-part c = c .before .before .before .before
 
 spots-requires : tie.Need-spots-requires
 spots-requires c κs =
@@ -35,33 +37,41 @@ part-requires c κs =
       (cuts .long, bounded _ _ ready, spots-next _ _ ready _ cuts _ (start .pre .1 .1) _ (spotted .spots .ensures .1)),
     )
 
+-- there are no more keys than rows
+keys-few : tie.Need-array-borrow-prefix-keys
+keys-few c =
+    let spotted = part-arg-to-spots (part-known-to-part c .before) in
+    let start = next-to-start (spotted .before) in
+    omega (arith, spotted .spots .ensures .0, spots-few _ _ (start .pre .0 .0) _ (start .pre .1 .0) _ (start .pre .1 .1))
+
+keys-long : tie.Need-slice-aggregate-assign-cut
+keys-long c = sym (length-take-le _ _ (omega (arith, keys-few (c .before), part-known-to-part (c .before) .part .ensures .cut .long)))
+
 assign-cut-requires : tie.Need-assign-cut-requires
 assign-cut-requires c κs =
-    let parted = cut-arg-to-part c in
+    let known = c .before .before in
+    let parted = part-known-to-part known in
     let spotted = part-arg-to-spots (parted .before) in
     let start = next-to-start (spotted .before) in
     let ready = start .pre .0 .0 in
     let cuts = start .pre .1 .0 in (
-      (
-        ready,
-        omega (arith, parted .part .ensures .uncut .long, start .pre .0 .1),
-        omega (arith, parted .part .ensures .cut .long, few-rows _ _ ready),
-      ),
+      (ready, omega (arith, parted .part .ensures .uncut .long, start .pre .0 .1)),
       (
         cuts,
-        spots-front _ _ ready _ cuts _ (start .pre .1 .1) _ _ _ (spotted .spots .ensures .0) (parted .part .ensures .cut),
+        front-alone _ _ _ _ _ (omega (arith, keys-few known, parted .part .ensures .cut .long))
+            (spots-front _ _ ready _ cuts _ (start .pre .1 .1) _ _ _ (spotted .spots .ensures .0) (parted .part .ensures .cut)),
       ),
     )
 
 returns : tie.Need-returns
 returns c =
     let cut = c .before .before .before in
-    let parted = cut-arg-to-part (cut .before) in
+    let parted = part-known-to-part (cut .before .before .before) in
     let start = next-to-start (part-arg-to-spots (parted .before) .before) in
     cut-full _ _ (start .pre .0 .0) _ (start .pre .1 .0) _ _ _ (parted .part .ensures .uncut) (cut .assign-cut .ensures)
 
 pub assign-some-spec : {M : Type 1} → statement M
 assign-some-spec =
     tie.close
-    (tie.spec (λ c. search needs) spots-requires (λ c. search needs) (λ c. search needs) (λ c. search needs) part-requires
-    (λ c. search needs) assign-cut-requires (λ c. search needs) returns)
+    (tie.spec (λ c. search needs) spots-requires (λ c. search needs) (λ c. search needs) (λ c. search needs) part-requires keys-few
+    keys-long assign-cut-requires (λ c. search needs) returns)
