@@ -17,7 +17,7 @@ use Rattle.hour.specs.Sheet.{Sheet, agents, plants, contracts, retails}
 use Rattle.hour.specs.Balance.{consumption, ownImport, losses, injected}
 use Rattle.hour.specs.Lines.{moneyOf, cellsPerAgent}
 use Rattle.hour.specs.Answer.{Lent}
-use Rattle.ground.specs.Ground.{buys, sells}
+use Rattle.lines.specs.Lines.{buys, sells}
 use Rattle.statement.specs.Decide.{every}
 use Rattle.statement.specs.Hour.{hourGood}
 use Rattle.statement.specs.Points.{demandIn}

@@ -6,8 +6,8 @@ use rows::Agent;
 use sheet::Counts;
 use sheet::Reading;
 
+mod agents;
 mod amounts;
-mod lines;
 mod numbers;
 mod passes;
 mod plants;
@@ -67,7 +67,7 @@ fn trades(
     if !follow {
         return refusals::refuse(Refusal::AMOUNTS, 0);
     }
-    if lines::good(kinds, &own, imports, &held, n, price, figures, money) {
+    if agents::good(kinds, &own, imports, &held, n, price, figures, money) {
         return Verdict::Fine;
     }
     refusals::refuse(Refusal::LINES, 0)

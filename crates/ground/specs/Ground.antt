@@ -1,12 +1,10 @@
--- What settling and checking both stand on: whether an hour is settled at all, the plants of a sheet by their columns, and what an agent's
--- line says it bought and sold. Assumes nothing.
-use Prim.Native.Nat.{ℕ, _+_, _-_}
-use mathlib.Core.Bool.{cond}
+-- What settling and checking both stand on: whether an hour is settled at all, and the plants of a sheet by their columns.
+-- Assumes nothing.
+use Prim.Native.Nat.{ℕ}
 use mathlib.Core.List.{List}
 use lib.IntN.{ℤ}
 use Rattle.sums.specs.Lists.{at, Filled}
 use Rattle.refusals.specs.declared.Verdict.{Verdict}
-use Rattle.rows.specs.Rows.{carriesLosses}
 use Rattle.hour.specs.Sheet.{Sheet}
 use Rattle.hour.specs.Answer.{hourVerdict}
 
@@ -32,10 +30,3 @@ pub record Tabled (h : Sheet) (n : ℕ) (before after : Fleet) : Type 0 where
   pub musts : Filled 0 (before .musts) (after .musts) n (at (h .mustRun))
   pub offers : Filled 0 (before .offers) (after .offers) n (at (h .offers))
   pub available : Filled 0 (before .available) (after .available) n (at (h .available))
-
--- an agent's line, from its kind and what it has
-abbrev pub buys : (kind own import contracted : ℕ) → ℕ
-buys kind own import contracted = cond (carriesLosses kind) (own - contracted) (contracted - own + import)
-
-abbrev pub sells : (kind own contracted : ℕ) → ℕ
-sells kind own contracted = cond (carriesLosses kind) (contracted - own) (own - contracted)

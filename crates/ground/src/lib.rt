@@ -1,12 +1,10 @@
-// What settling and checking both stand on: whether the hour of a sheet is to be settled at all, its plants by their columns, and what
-// goes into an agent's line.
+// What settling and checking both stand on: whether the hour of a sheet is to be settled at all, and its plants by their columns.
 use balance::Weight;
 use refusals::Refusal;
 use refusals::Verdict;
 use rows::Agent;
 use sheet::Counts;
 
-pub mod line;
 pub mod plants;
 
 ghost use mathlib.Core.Path.{_≡_};

@@ -1,4 +1,3 @@
-pub mod OneLine
 pub mod Stages
 pub mod Holdings
 pub mod Judged

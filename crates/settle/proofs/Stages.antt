@@ -5,14 +5,13 @@ use native.Mathlib.Decide.{decLt}
 use mathlib.Core.List.{List}
 use mathlib.Core.Path.{_≡_, refl, ap, ap₂, _∙_, sym}
 use lib.Dec.{ltb, eqb}
-use lib.IntN.{ℤ, pos}
 use lib.ListN.{length, take}
 use Rattle.sums.specs.Sums.{sum, pick, keyed}
 use Rattle.sums.specs.Lists.{at, Filled}
 use Rattle.sums.proofs.Sums.{sum-eq, peak-eq}
 use Rattle.sums.proofs.Lists.{zeros-at, length-listTo, getD-listTo, listTo-eq}
 use Rattle.sums.proofs.Keyed.{keyed-eq}
-use Rattle.sums.proofs.Fill.{filled-count, filled-by, filled-then, filled-front, front-at, front-long}
+use Rattle.sums.proofs.Fill.{filled-by, filled-then, filled-front, front-at, front-long}
 use Rattle.refusals.specs.declared.Verdict.{Verdict}
 use Rattle.rows.specs.Limits.{mostAgents, mostPlants, mostAvailable}
 use Rattle.merit.specs.Merit.{schedule, idealDispatch, hourPrice}
@@ -20,18 +19,16 @@ use Rattle.merit.proofs.Schedule.{schedule-eq}
 use Rattle.merit.proofs.MustRun.{sum-above}
 use Rattle.dispatch.specs.Dispatch.{Dispatched, priceOf}
 use Rattle.dispatch.proofs.Dispatched.{dispatched-plain, price-plain}
-use Rattle.hour.specs.Sheet.{Sheet, agents, plants, retails}
+use Rattle.hour.specs.Sheet.{Sheet, agents, plants}
 use Rattle.hour.specs.Sound.{Sound}
-use Rattle.hour.specs.Balance.{lossShare, ownImport, dispatchDemand}
-use Rattle.hour.specs.Lines.{scheduled, bolsaPrice, own, contracted, bought, sold, money, cellsPerAgent, figure}
+use Rattle.hour.specs.Balance.{dispatchDemand}
+use Rattle.hour.specs.Lines.{scheduled, bolsaPrice, own}
 use Rattle.hour.proofs.Balance.{own-all}
 use Rattle.hour.proofs.Bounds.{scheduled-le, exported-le, injected-le}
-use Rattle.hour.proofs.Fits.{commercial-most, bought-le}
-use Rattle.hour.proofs.Verdicts.{Balanced, balanced}
-use Rattle.hour.proofs.Cells.{figure-is}
+use Rattle.hour.proofs.Fits.{commercial-most}
+use Rattle.hour.proofs.Verdicts.{balanced}
 use Rattle.balance.specs.Balances.{zeros, unscheduled}
-use Rattle.ground.specs.Ground.{buys, sells}
-use Rattle.settle.specs.Parts.{Countable, Tallied, spareOf, Covered, lineCell, lineMoney}
+use Rattle.settle.specs.Parts.{Countable, Tallied, spareOf, Covered}
 
 -- ---- what each plant has to spare, from its columns
 pub spare-are : (h : Sheet) (n : ℕ)
@@ -153,40 +150,3 @@ module _ (h : Sheet) (ok : Sound h) where
             exported-le h ok a,
           )
       go (no l) = omega (arith, c .own .kept a (omega arith), zeros-at mostAgents a)
-
--- ---- the lines of n agents, from their columns
-module _ (h : Sheet) (n : ℕ) (e : agents h ≡ n) (ks ss os is cs : List ℕ)
-    (k : (a : ℕ) → a < n → at ks a ≡ at (h .kinds) a)
-    (s : (a : ℕ) → a < n → at ss a ≡ lossShare h a) (o : (a : ℕ) → a < n → at os a ≡ own h a)
-    (i : (a : ℕ) → a < n → at is a ≡ ownImport h a) (c : (a : ℕ) → a < n → at cs a ≡ contracted h a) where
-  bought-is : (a : ℕ) → a < n → buys (at ks a) (at os a) (at is a) (at cs a) ≡ bought h a
-  unfolding bought retails
-  bought-is a l = rw (k a l, o a l, i a l, c a l)
-
-  sold-is : (a : ℕ) → a < n → sells (at ks a) (at os a) (at cs a) ≡ sold h a
-  unfolding sold retails
-  sold-is a l = rw (k a l, o a l, c a l)
-
-  pub figures-are : (before after : List ℕ)
-      → Filled 0 before after (cellsPerAgent * n) (lineCell ks ss os is cs)
-      → Filled 0 before after (cellsPerAgent * agents h) (figure h)
-  figures-are before after f =
-      let m : cellsPerAgent * n ≡ cellsPerAgent * agents h = omega arith in
-      filled-by 0 _ _ _ _ _
-      (figure-is h _ _ _ _ _ _
-      (λ a q. let l : a < n = omega arith in (s a l, o a l, i a l, c a l, bought-is a l, sold-is a l)))
-      (filled-count 0 _ _ _ _ _ m f)
-
-  pub money-are : (p : ℕ)
-      → p ≡ bolsaPrice h
-      → (before after : List ℤ)
-      → Filled (pos 0) before after n (lineMoney ks os is cs p)
-      → Filled (pos 0) before after (agents h) (money h)
-  unfolding money
-  money-are p q before after f =
-      filled-count (pos 0) _ _ _ _ _ (sym e)
-      (filled-by (pos 0) _ _ _ _ _ (λ a l. rw (bought-is a l, sold-is a l, q)) f)
-
-  -- what each buys fits its cell
-  pub lines-fit : Sound h → Balanced h → (a : ℕ) → a < n → buys (at ks a) (at os a) (at is a) (at cs a) ≤ 4294967295
-  lines-fit ok b a l = omega (arith, bought-is a l, bought-le h ok b a (omega arith))

@@ -1,21 +1,19 @@
 -- What the parts of a settlement hand on to each other. Assumes nothing.
-use Prim.Native.Nat.{ℕ, _+_, _-_, _*_, _/_, _%_, _≤_, _<_}
+use Prim.Native.Nat.{ℕ, _+_, _-_, _*_, _≤_, _<_}
 use mathlib.Core.List.{List}
 use mathlib.Core.Path.{_≡_}
-use lib.IntN.{ℤ}
-use lib.ListN.{length, set}
+use lib.ListN.{length}
 use Rattle.sums.specs.Sums.{sum, keyed}
 use Rattle.sums.specs.Lists.{at, listTo, Filled}
 use Rattle.refusals.specs.declared.Refusal.{Refusal}
 use Rattle.refusals.specs.declared.Verdict.{Verdict}
 use Rattle.rows.specs.Limits.{mostAgents, mostPlants, mostContracts, mostAvailable, mostQuantity}
 use Rattle.balance.specs.Balances.{zeros, unscheduled}
-use Rattle.ground.specs.Ground.{buys, sells}
 use Rattle.contracts.specs.Assign.{countIn, dealIn}
 use Rattle.hour.specs.Sheet.{Sheet, agents, plants, contracts}
 use Rattle.hour.specs.Balance.{demands, dispatchDemand}
 use Rattle.hour.specs.Answer.{balanceVerdict}
-use Rattle.hour.specs.Lines.{scheduled, bolsaPrice, amount, own, contracted, moneyOf, cellsPerAgent, cellOf}
+use Rattle.hour.specs.Lines.{scheduled, bolsaPrice, amount, own, contracted}
 use Rattle.hour.specs.declared.Summary.{Summary}
 
 -- ---- sums by agent, added to what stands in their cells: nothing overflows
@@ -30,22 +28,6 @@ pub record Countable (keys values before : List ℕ) : Type 0 where
 abbrev pub Tallied : (keys values before after : List ℕ) → Type 0
 Tallied keys values before after =
     (a : ℕ) → a < mostAgents → at after a ≡ keyed (at keys) (at values) (length keys) a + at before a
-
--- ---- the lines
-
--- the cells of one agent, from k on
-abbrev pub lineSet : List ℕ → (k share own import contracted bought sold : ℕ) → List ℕ
-lineSet l k s o i c b v = set (set (set (set (set (set l k s) (k + 1) o) (k + 2) i) (k + 3) c) (k + 4) b) (k + 5) v
-
--- cell k of the figures, and the money of agent a, from the columns of all agents
-abbrev pub lineCell : (kinds shares own imports contracted : List ℕ) → ℕ → ℕ
-lineCell ks ss os is cs k =
-    cellOf (at ss) (at os) (at is) (at cs) (λ a. buys (at ks a) (at os a) (at is a) (at cs a))
-    (λ a. sells (at ks a) (at os a) (at cs a)) (k % cellsPerAgent) (k / cellsPerAgent)
-
-abbrev pub lineMoney : (kinds own imports contracted : List ℕ) → ℕ → ℕ → ℤ
-lineMoney ks os is cs price a =
-    moneyOf (sells (at ks a) (at os a) (at cs a)) (buys (at ks a) (at os a) (at is a) (at cs a)) price
 
 -- ---- a refusal, with price, demand and losses 0
 abbrev pub turnedAway : Refusal → Summary

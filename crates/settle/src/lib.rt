@@ -8,7 +8,6 @@ use sheet::Counts;
 use sheet::Reading;
 
 mod agreed;
-mod lines;
 mod plants;
 mod tally;
 

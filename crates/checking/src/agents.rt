@@ -1,5 +1,4 @@
-// Point 25: their lines.
-use ground::line;
+// Point 25: the agents' lines.
 use rows::Agent;
 ghost use mathlib.Core.Path.{_≡_};
 ghost use Prim.Native.Nat.{_*_, _≤_};
@@ -33,9 +32,9 @@ fn line_good(
     requires { ⌜ price ≤ mostOffer ⌝ }
     ensures { λ r. ⌜ r ≡ lineTest kind own import contracted price c1 c2 c3 c4 c5 money ⌝ }
 {
-    let buys = line::bought(kind, c1, import, c3);
-    let sells = line::sold(kind, c1, c3);
-    let due = line::owed(c5, c4, price);
+    let buys = lines::bought(kind, c1, import, c3);
+    let sells = lines::sold(kind, c1, c3);
+    let due = lines::owed(c5, c4, price);
     let paid = same(money, due);
     (sums::wide(c1) == own)
         & (c2 == import)

@@ -7,7 +7,7 @@ use lib.ListN.{length, set}
 use Rattle.sums.specs.Lists.{Filled}
 use Rattle.sums.proofs.Fill.{filled-more, filled-count}
 use Rattle.hour.specs.Lines.{cellsPerAgent, cellOf}
-use Rattle.settle.specs.Parts.{lineSet}
+use Rattle.lines.specs.Lines.{lineSet}
 
 module _ (f₀ f₁ f₂ f₃ f₄ f₅ : ℕ → ℕ) (before : List ℕ) (a : ℕ)
     (room : cellsPerAgent * a + cellsPerAgent ≤ length before) where

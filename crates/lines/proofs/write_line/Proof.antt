@@ -2,8 +2,8 @@ use borrow.Author.Needs.{needs}
 use native.Mathlib.Omega.{arith}
 use mathlib.Core.Path.{refl}
 use lib.ListN.{length-set}
-use Rattle.settle.proofs.lines.write_line.Statement.{statement}
-use Rattle.settle.proofs.lines.write_line.Tie as tie
+use Rattle.lines.proofs.write_line.Statement.{statement}
+use Rattle.lines.proofs.write_line.Tie as tie
 
 -- six stores are the line
 returns : tie.Need-returns

@@ -1,7 +1,7 @@
 use borrow.Author.Needs.{needs}
 use mathlib.Core.Path.{_∙_, sym}
-use Rattle.ground.proofs.line.bought.Statement.{statement}
-use Rattle.ground.proofs.line.bought.Tie as tie
+use Rattle.lines.proofs.bought.Statement.{statement}
+use Rattle.lines.proofs.bought.Tie as tie
 
 -- ways back: X-to-Y leads from the place X of the code to the earlier place Y
 abbrev wide3-to-else1 : tie.After-wide3 → tie.Else1

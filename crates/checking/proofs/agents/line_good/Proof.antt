@@ -9,8 +9,8 @@ use Rattle.rows.specs.Limits.{mostOffer}
 use Rattle.hour.specs.Lines.{moneyOf}
 use Rattle.hour.proofs.Money.{money-fits}
 use Rattle.statement.specs.Tests.{sameMoney}
-use Rattle.checking.proofs.lines.line_good.Statement.{statement}
-use Rattle.checking.proofs.lines.line_good.Tie as tie
+use Rattle.checking.proofs.agents.line_good.Statement.{statement}
+use Rattle.checking.proofs.agents.line_good.Tie as tie
 
 -- ways back: X-to-Y leads from the place X of the code to the earlier place Y
 abbrev same-to-start : tie.After-same → tie.Start

@@ -1,7 +1,7 @@
 use borrow.Author.Needs.{needs}
 use mathlib.Core.Path.{_∙_, sym}
-use Rattle.ground.proofs.line.sold.Statement.{statement}
-use Rattle.ground.proofs.line.sold.Tie as tie
+use Rattle.lines.proofs.sold.Statement.{statement}
+use Rattle.lines.proofs.sold.Tie as tie
 
 returns : tie.Need-returns
 returns c = simp (sym ((c .before .before) .carries-losses .ensures) ∙ (c .before) .if1 .taken, c .less .ensures)

@@ -9,8 +9,8 @@ use mir.ValLaws.{toZ-ofZ, toZ-pos}
 use Rattle.rows.specs.Limits.{mostOffer}
 use Rattle.hour.specs.Lines.{moneyOf}
 use Rattle.hour.proofs.Money.{diff-fits, money-fits}
-use Rattle.ground.proofs.line.owed.Statement.{statement}
-use Rattle.ground.proofs.line.owed.Tie as tie
+use Rattle.lines.proofs.owed.Statement.{statement}
+use Rattle.lines.proofs.owed.Tie as tie
 
 sub-result : tie.Need-sub-result
 sub-result c =

@@ -10,8 +10,8 @@ use mir.ValLaws.{toZ-ofZ}
 use Rattle.statement.specs.Decide.{every}
 use Rattle.checking.specs.Parts.{lineAt}
 use Rattle.checking.proofs.Loops.{every-none, every-step}
-use Rattle.checking.proofs.lines.good.Statement.{statement}
-use Rattle.checking.proofs.lines.good.Tie as tie
+use Rattle.checking.proofs.agents.good.Statement.{statement}
+use Rattle.checking.proofs.agents.good.Tie as tie
 
 abbrev Inv-loop : tie.InvT-loop
 Inv-loop kinds own imports held n price figures money fine₀ a₀ fine a =

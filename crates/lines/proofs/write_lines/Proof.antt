@@ -10,10 +10,10 @@ use Rattle.sums.specs.Lists.{Filled}
 use Rattle.sums.proofs.Fill.{filled-none, filled-more}
 use Rattle.rows.specs.Limits.{mostOffer}
 use Rattle.hour.specs.Lines.{moneyOf, cellsPerAgent}
-use Rattle.settle.specs.Parts.{lineCell, lineMoney}
-use Rattle.settle.proofs.OneLine.{line-more}
-use Rattle.settle.proofs.lines.write_lines.Statement.{statement}
-use Rattle.settle.proofs.lines.write_lines.Tie as tie
+use Rattle.lines.specs.Lines.{lineCell, lineMoney}
+use Rattle.lines.proofs.OneLine.{line-more}
+use Rattle.lines.proofs.write_lines.Statement.{statement}
+use Rattle.lines.proofs.write_lines.Tie as tie
 
 abbrev Inv-loop : tie.InvT-loop
 Inv-loop kinds shares own imports contracted n price figures₀ money₀ a₀ figures money a =

@@ -1,15 +1,45 @@
-// The agent's line: its figures and its money.
-use ground::line;
+// An agent's line: what it buys, sells and is owed, from its kind, its own energy, its own import and what it holds under contract; and
+// its figures and its money, written.
 use rows::Agent;
+use rows::Plant;
 ghost use mathlib.Core.Path.{_≡_};
-ghost use Prim.Native.Nat.{ℕ, _+_, _*_, _≤_, _<_};
+ghost use Prim.Native.Nat.{ℕ, _+_, _*_, _≤_, _<_, min};
 ghost use lib.IntN.{pos};
 ghost use lib.ListN.{length};
 ghost use Rattle.sums.specs.Lists.{at, Filled};
 ghost use Rattle.rows.specs.Limits.{mostAgents, mostOffer};
-ghost use Rattle.hour.specs.Lines.{cellsPerAgent};
-ghost use Rattle.ground.specs.Ground.{buys};
-ghost use Rattle.settle.specs.Parts.{lineSet, lineCell, lineMoney};
+ghost use Rattle.hour.specs.Lines.{moneyOf, cellsPerAgent};
+ghost use Rattle.lines.specs.Lines.{buys, sells, lineSet, lineCell, lineMoney};
+
+// A retailer buys the demand that contracts don't cover; a generator buys its shortfall, and its own import besides.
+pub fn bought(kind: u32, own: u32, import: u32, contracted: u32) -> u64
+    ensures { λ r. ⌜ r ≡ buys kind own import contracted ⌝ }
+{
+    if rows::carries_losses(kind) {
+        sums::wide(sums::less(own, contracted))
+    } else {
+        sums::wide(sums::less(contracted, own)) + sums::wide(import)
+    }
+}
+
+// A retailer sells its contracted excess, a generator what it makes beyond its contracts.
+pub fn sold(kind: u32, own: u32, contracted: u32) -> u32
+    ensures { λ r. ⌜ r ≡ sells kind own contracted ⌝ }
+{
+    if rows::carries_losses(kind) {
+        sums::less(contracted, own)
+    } else {
+        sums::less(own, contracted)
+    }
+}
+
+// The money of one agent, in whole centavos; no price is above the highest offer.
+pub fn owed(sold: u32, bought: u32, price: u32) -> i64
+    ensures { λ r. ⌜ r ≡ moneyOf sold bought (min price mostOffer) ⌝ }
+{
+    let centavos = sums::least(price, Plant::OFFER);
+    (sold as i64 - bought as i64) * centavos as i64
+}
 
 // The cells of one agent in the figures, from k on.
 fn write_line(
@@ -34,7 +64,7 @@ fn write_line(
 }
 
 // The lines and the money of n agents.
-pub(crate) fn write_lines<'a>(
+pub fn write_lines<'a>(
     kinds: &'a [u32; Agent::MOST],
     shares: &'a [u32; Agent::MOST],
     own: &[u32; Agent::MOST],
@@ -54,8 +84,8 @@ pub(crate) fn write_lines<'a>(
 {
     let mut a = 0;
     while a < n {
-        let buys = line::bought(kinds[a], own[a], imports[a], contracted[a]) as u32;
-        let sells = line::sold(kinds[a], own[a], contracted[a]);
+        let buys = bought(kinds[a], own[a], imports[a], contracted[a]) as u32;
+        let sells = sold(kinds[a], own[a], contracted[a]);
         write_line(
             Agent::CELLS * a,
             shares[a],
@@ -66,7 +96,7 @@ pub(crate) fn write_lines<'a>(
             sells,
             figures,
         );
-        let m = line::owed(sells, buys, price);
+        let m = owed(sells, buys, price);
         money[a] = m;
         a += 1;
     }
