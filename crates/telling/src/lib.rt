@@ -1,6 +1,6 @@
 // Our statement of an hour as text, in the form in which an administrator's is typed. It is put together from its end, since digits come
 // least first, in a scratch with room for the longest; the lent buffer is untouched until it is known to be long enough.
-mod lines;
+mod putting;
 
 ghost use mathlib.Core.Path.{_≡_};
 ghost use Prim.Native.Nat.{_≤_};
@@ -55,9 +55,9 @@ fn put_statement(
     ensures { λ r. ⌜ drop r (now (s .exit))
         ≡ statementText c price (lent (now (figures .entry)) (now (money .entry)) (now (schedule .entry)) (now (amounts .entry))) ⌝ }
 {
-    let i = lines::put_list(s, s.len(), b"contract", amounts, c.contracts);
-    let j = lines::put_list(s, i, b"plant", schedule, c.plants);
-    let k = lines::put_agents(s, j, figures, money, c.agents);
+    let i = putting::put_list(s, s.len(), b"contract", amounts, c.contracts);
+    let j = putting::put_list(s, i, b"plant", schedule, c.plants);
+    let k = putting::put_agents(s, j, figures, money, c.agents);
     puts::put_row(s, k, b"price", &[price])
 }
 

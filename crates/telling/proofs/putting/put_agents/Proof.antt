@@ -8,8 +8,8 @@ use lib.ListN.{length, drop}
 use Rattle.settle.specs.Settled.{lent}
 use Rattle.telling.specs.Text.{agentLine}
 use Rattle.telling.proofs.Going.{Going, going-more, going-done}
-use Rattle.telling.proofs.lines.put_agents.Statement.{statement}
-use Rattle.telling.proofs.lines.put_agents.Tie as tie
+use Rattle.telling.proofs.putting.put_agents.Statement.{statement}
+use Rattle.telling.proofs.putting.put_agents.Tie as tie
 
 abbrev Inv-loop : tie.InvT-loop
 Inv-loop s₀ at figures money n i₀ left₀ s i left =

@@ -7,8 +7,8 @@ use denote.Ref.{now}
 use lib.ListN.{length, drop, getD}
 use Rattle.text.specs.Written.{rowText}
 use Rattle.telling.proofs.Going.{Going, going-more, going-done}
-use Rattle.telling.proofs.lines.put_list.Statement.{statement}
-use Rattle.telling.proofs.lines.put_list.Tie as tie
+use Rattle.telling.proofs.putting.put_list.Statement.{statement}
+use Rattle.telling.proofs.putting.put_list.Tie as tie
 
 -- row i of the list, and what follows
 abbrev row : (word list : List ℕ) → ℕ → List ℕ → List ℕ

@@ -13,8 +13,8 @@ use Rattle.printing.specs.Text.{signed}
 use Rattle.text.specs.Lines.{agentWord}
 use Rattle.text.specs.Written.{joined}
 use Rattle.telling.specs.Text.{agentNumbers, agentLine}
-use Rattle.telling.proofs.lines.put_agent.Statement.{statement}
-use Rattle.telling.proofs.lines.put_agent.Tie as tie
+use Rattle.telling.proofs.putting.put_agent.Statement.{statement}
+use Rattle.telling.proofs.putting.put_agent.Tie as tie
 
 returns : tie.Need-returns
 unfolding agentLine
