@@ -81,7 +81,7 @@ fn kinds_of(s: &[u8], c: Counts, out: &mut [u32])
     let n = c.agents;
     let mut a = 0;
     while a < n {
-        out[a] = rows::agent_of(rows::row_at(section, a)).kind;
+        out[a] = rows::agent_of(octets::row_at(section, a)).kind;
         a += 1;
     }
 }
@@ -104,7 +104,7 @@ fn meter(s: &[u8], c: Counts, imports: &mut [u64], exports: &mut [u64])
     let n = c.boundaries;
     let mut j = 0;
     while j < n {
-        let b = rows::boundary_of(rows::row_at(section, j));
+        let b = rows::boundary_of(octets::row_at(section, j));
         let a = b.agent as usize;
         add_reading(imports, a, b.import, b.factor);
         add_reading(exports, a, b.export, b.factor);

@@ -3,7 +3,7 @@ use crate::books;
 use crate::exported;
 use crate::library;
 use crate::printer;
-use rows::Words;
+use octets::Words;
 ghost use Prim.Native.Nat.{_≤_, _<_};
 ghost use lib.ListN.{length};
 
@@ -21,7 +21,7 @@ fn word(s: &[u8], row: usize, k: usize) -> u32
     if 65536 < row {
         return 0;
     }
-    let w = rows::row_at(s, row + k / 4);
+    let w = octets::row_at(s, row + k / 4);
     match k % 4 {
         0 => w.first,
         1 => w.second,
@@ -333,13 +333,13 @@ pub(crate) fn run(s: &[u8], at: usize) -> usize
     requires { ⌜ at ≤ 8192 ⌝ }
     ensures { λ r. ⌜ (1 ≤ r) × (r ≤ 4097) ⌝ }
 {
-    let head = rows::row_at(s, at);
+    let head = octets::row_at(s, at);
     let n = few(head.fourth);
     let bytes = part(s, at + 4, n);
     let lists = at + 4 + (n + 15) / 16;
-    let counts = rows::row_at(s, at + 1);
-    let lent = rows::row_at(s, at + 2);
-    let more = rows::row_at(s, at + 3);
+    let counts = octets::row_at(s, at + 1);
+    let lent = octets::row_at(s, at + 2);
+    let more = octets::row_at(s, at + 3);
     load_and_lend(head, lent, more, bytes, s, lists, counts);
     rows_of(more.third)
 }

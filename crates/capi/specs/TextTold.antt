@@ -8,7 +8,7 @@ use lib.Dec.{leb}
 use Rattle.sums.specs.Lists.{at, Filled}
 use Rattle.refusals.specs.Refusals.{cells}
 use Rattle.refusals.specs.declared.Verdict.{Verdict}
-use Rattle.rows.specs.Bytes.{byteOf}
+use Rattle.octets.specs.Bytes.{byteOf}
 use Rattle.sheet.specs.Reading.{readOf}
 use Rattle.sheet.specs.declared.Counts.{Counts}
 use Rattle.hour.specs.Answer.{Lent}

@@ -12,7 +12,7 @@ use Rattle.refusals.specs.declared.Verdict.{Verdict}
 use Rattle.share.specs.Share.{shareVerdict, shareOf}
 use Rattle.sheet.specs.Reading.{readOf, sheetLength}
 use Rattle.sheet.specs.declared.Reading.{Reading}
-use Rattle.rows.specs.Bytes.{byteOf}
+use Rattle.octets.specs.Bytes.{byteOf}
 use Rattle.columns.specs.Columns.{hourOf}
 use Rattle.hour.specs.Answer.{Lent, summaryOf}
 use Rattle.hour.specs.declared.Summary.{Summary}

@@ -36,7 +36,7 @@ fn columns(
     let n = c.contracts;
     let mut j = 0;
     while j < n {
-        let k = rows::contract_of(rows::row_at(section, j));
+        let k = rows::contract_of(octets::row_at(section, j));
         sellers[j] = k.seller;
         buyers[j] = k.buyer;
         kinds[j] = k.kind;

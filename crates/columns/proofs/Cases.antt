@@ -5,8 +5,8 @@ use mathlib.Core.Path.{_≡_, refl}
 use lib.ListN.{length, getD}
 use Rattle.sums.specs.Lists.{listTo}
 use Rattle.refusals.specs.Refusals.{firstBad}
-use Rattle.rows.specs.Bytes.{u32At, wordsOf, wordsAt, word, byteOf, bytesOf}
-use Rattle.rows.specs.declared.Words.{Words}
+use Rattle.octets.specs.Bytes.{u32At, wordsOf, wordsAt, word, byteOf, bytesOf}
+use Rattle.octets.specs.declared.Words.{Words}
 use Rattle.sheet.specs.Reading.{countsOf, distancesGood, layoutGood, kindAt, agentVerdict}
 use Rattle.sheet.specs.Reading.{boundaryVerdict, plantVerdict, contractVerdict, readVerdict, readOf}
 use Rattle.sheet.specs.declared.Counts.{Counts}

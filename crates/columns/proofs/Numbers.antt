@@ -12,7 +12,7 @@ use Rattle.sums.specs.Lists.{at}
 use Rattle.refusals.specs.Refusals.{badLength, badLayout, badAgent, badBoundary, badPlant, badContract, badExports, badGain, unshared}
 use Rattle.refusals.specs.Refusals.{uncovered, overrun, noRoom, refused, refusedUnless, orElse, firstOf, firstBad, numberOf}
 use Rattle.refusals.specs.declared.Verdict.{Verdict}
-use Rattle.rows.specs.Bytes.{wordsAt}
+use Rattle.octets.specs.Bytes.{wordsAt}
 use Rattle.rows.specs.Rows.{agentBlank, boundaryBlank, agentGood, boundaryGood, plantGood, contractGood}
 use Rattle.sheet.specs.Reading.{boundaryStart, plantStart, lengthGood, countsOf, layoutGood, kindAt, agentVerdict}
 use Rattle.sheet.specs.Reading.{boundaryVerdict, plantVerdict, contractVerdict, checks, readVerdict}

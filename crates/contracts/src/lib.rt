@@ -112,7 +112,7 @@ fn gather(section: &[u8], keys: &[u64], n: usize, out: &mut [u32])
 {
     let mut p = 0;
     while p < n {
-        out[p] = rows::contract_of(rows::row_at(section, row_of(keys[p]))).quantity;
+        out[p] = rows::contract_of(octets::row_at(section, row_of(keys[p]))).quantity;
         p += 1;
     }
 }

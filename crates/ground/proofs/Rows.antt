@@ -11,7 +11,7 @@ use Rattle.sums.proofs.Sums.{sum-eq}
 use Rattle.sums.proofs.Lists.{listTo-is}
 use Rattle.sums.proofs.Fill.{filled-front, filled-by}
 use Rattle.rows.specs.Limits.{mostAvailable}
-use Rattle.rows.specs.Bytes.{wordsAt}
+use Rattle.octets.specs.Bytes.{wordsAt}
 use Rattle.rows.specs.Rows.{plantOf}
 use Rattle.rows.specs.declared.Plant.{Plant}
 use Rattle.sheet.specs.Reading.{readOf}

@@ -28,7 +28,7 @@ pub(crate) fn offered(bytes: &[u8], c: Counts) -> Reach
     let mut must = 0;
     let mut i = 0;
     while i < n {
-        let p = rows::plant_of(rows::row_at(section, i));
+        let p = rows::plant_of(octets::row_at(section, i));
         available += p.availability;
         must += p.must;
         i += 1;
@@ -56,7 +56,7 @@ fn fill(
     let n = c.plants;
     let mut i = 0;
     while i < n {
-        let p = rows::plant_of(rows::row_at(section, i));
+        let p = rows::plant_of(octets::row_at(section, i));
         holders[i] = p.agent;
         flags[i] = p.inflexible;
         musts[i] = p.must;

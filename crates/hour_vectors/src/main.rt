@@ -47,7 +47,7 @@ fn fill_kinds(bytes: &[u8], n: usize, kinds: &mut [u32])
 {
     let mut a = 0;
     while a < n {
-        kinds[a] = rows::agent_of(rows::row_at(bytes, a)).kind;
+        kinds[a] = rows::agent_of(octets::row_at(bytes, a)).kind;
         a += 1;
     }
 }

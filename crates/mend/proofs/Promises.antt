@@ -18,9 +18,9 @@ use Rattle.sums.proofs.Tests.{and-left, and-right}
 use Rattle.refusals.specs.declared.Refusal.{Refusal}
 use Rattle.refusals.specs.declared.Verdict.{Verdict}
 use Rattle.refusals.proofs.Fine.{fine-left, fine-right, fine-test}
-use Rattle.rows.specs.Bytes.{wordsAt}
+use Rattle.octets.specs.Bytes.{wordsAt}
 use Rattle.rows.specs.Rows.{agentBlank, boundaryBlank}
-use Rattle.rows.proofs.Trip.{Bytes}
+use Rattle.octets.proofs.Trip.{Bytes}
 use Rattle.sheet.specs.Reading.{boundaryStart, plantStart, trailerStart, lengthGood, countsOf, layoutGood, readOf}
 use Rattle.sheet.specs.Counting.{countVerdict}
 use Rattle.sheet.specs.declared.Counts.{Counts}

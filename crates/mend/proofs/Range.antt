@@ -4,9 +4,9 @@ use native.Mathlib.Omega.{arith}
 use native.Mathlib.Decide.{decLt}
 use mathlib.Core.Path.{_≡_, refl, ap, sym, _∙_}
 use borrow.Author.Tests.{lt-ltb, le-ltb, eq-eqb, ne-eqb}
-use Rattle.rows.specs.Bytes.{wordsOf}
-use Rattle.rows.specs.declared.Words.{Words}
-use Rattle.rows.proofs.Trip.{Narrow}
+use Rattle.octets.specs.Bytes.{wordsOf}
+use Rattle.octets.specs.declared.Words.{Words}
+use Rattle.octets.proofs.Trip.{Narrow}
 use Rattle.sheet.specs.Reading.{boundaryStart, plantStart, trailerStart}
 use Rattle.sheet.specs.declared.Counts.{Counts}
 use Rattle.mend.specs.Mend.{agentMended, boundaryMended, distance, agentsAndBoundaries, plantsAndContracts, rowMended}

@@ -17,11 +17,11 @@ use Rattle.sums.proofs.Picks.{pick-false}
 use Rattle.sums.proofs.Tests.{all-true}
 use Rattle.refusals.specs.declared.Verdict.{Verdict}
 use Rattle.refusals.proofs.Fine.{fine-parts, fine-test}
-use Rattle.rows.specs.Bytes.{wordsAt, byteOf, bytesOf}
+use Rattle.octets.specs.Bytes.{wordsAt, byteOf, bytesOf}
 use Rattle.rows.specs.Rows.{agentBlank, boundaryBlank}
-use Rattle.rows.specs.declared.Words.{Words}
+use Rattle.octets.specs.declared.Words.{Words}
 use Rattle.rows.proofs.Good.{agent-blank, boundary-blank}
-use Rattle.rows.proofs.Trip.{Bytes, row-narrow, rows-back, bytes-back, bytesOf-bytes}
+use Rattle.octets.proofs.Trip.{Bytes, row-narrow, rows-back, bytes-back, bytesOf-bytes}
 use Rattle.sheet.specs.Reading.{boundaryStart, plantStart, contractStart, trailerStart, sheetLength, lengthGood}
 use Rattle.sheet.specs.Reading.{countsOf, countsGood, distancesGood, layoutGood, checks, readVerdict, readOf}
 use Rattle.sheet.specs.Counting.{countVerdict}

@@ -9,8 +9,8 @@ use Rattle.sums.specs.Sums.{sum, pick, first}
 use Rattle.sums.specs.Lists.{at, Filled}
 use Rattle.refusals.specs.Refusals.{noRoom, refusedUnless, orElse, cells}
 use Rattle.refusals.specs.declared.Verdict.{Verdict}
-use Rattle.rows.specs.Bytes.{wordsOf, wordsAt, byteOf}
-use Rattle.rows.specs.declared.Words.{Words}
+use Rattle.octets.specs.Bytes.{wordsOf, wordsAt, byteOf}
+use Rattle.octets.specs.declared.Words.{Words}
 use Rattle.sheet.specs.Reading.{boundaryStart, plantStart, contractStart, trailerStart, countsOf}
 use Rattle.sheet.specs.Counting.{countVerdict}
 use Rattle.sheet.specs.declared.Counts.{Counts}

@@ -2,11 +2,11 @@
 ghost use mathlib.Core.Path.{_≡_};
 ghost use Prim.Native.Nat.{_+_, _-_, _*_, _/_, _%_, _^_, _≤_, _<_};
 ghost use lib.ListN.{length};
-ghost use Rattle.rows.specs.Bytes.{word};
+ghost use Rattle.octets.specs.Bytes.{word};
 ghost use Rattle.mend.specs.Mend.{rowMended, mendedAt, changes, Mends};
 ghost use Rattle.mend.specs.Steps.{Small, Mendable, MendRoomy, noted, notes, Copied, MendsCounted};
 use refusals::Refusal;
-use rows::Words;
+use octets::Words;
 use sheet::Counts;
 use sheet::counting::Counting;
 
@@ -97,7 +97,7 @@ fn mended_at(s: &[u8], c: Counts, k: usize) -> u8
     ensures { λ r. ⌜ r ≡ mendedAt (now (s .entry)) k ⌝ }
 {
     let r = k / 16;
-    let w = row_mended(c, r, rows::row_at(s, r));
+    let w = row_mended(c, r, octets::row_at(s, r));
     byte_in(number_in(w, k / 4 % 4), k % 4)
 }
 

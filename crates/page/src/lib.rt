@@ -28,7 +28,7 @@ fn fill_kinds(sheet: &[u8], c: Counts, out: &mut [u32])
 {
     let agents = section_of(sheet, c, Agent::SECTION);
     for a in 0..c.agents {
-        let agent = rows::agent_of(rows::row_at(agents, a));
+        let agent = rows::agent_of(octets::row_at(agents, a));
         out[a] = agent.kind;
     }
 }

@@ -165,7 +165,7 @@ fn why_plant_read(bytes: &[u8], c: Counts, plant: u32) -> PlantWhy
             place: plant,
         });
     }
-    let p = rows::plant_of(rows::row_at(bytes, c.agents + c.boundaries + i));
+    let p = rows::plant_of(octets::row_at(bytes, c.agents + c.boundaries + i));
     PlantWhy::Because(PlantCase {
         reason: judge_plant(schedule[i], p.must, p.availability),
         scheduled: schedule[i],
@@ -207,7 +207,7 @@ fn why_contract_read(bytes: &[u8], c: Counts, contract: u32) -> ContractWhy
             place: contract,
         });
     }
-    let k = rows::contract_of(rows::row_at(bytes, c.agents + c.boundaries + c.plants + j));
+    let k = rows::contract_of(octets::row_at(bytes, c.agents + c.boundaries + c.plants + j));
     let b = balance::weigh(bytes);
     ContractWhy::Because(ContractCase {
         reason: passes::judge(bytes, c, k, j, b.commercial[k.buyer as usize]),

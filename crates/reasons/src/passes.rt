@@ -67,7 +67,7 @@ fn pass(bytes: &[u8], c: Counts, part: Part, me: Contract, i: usize) -> u32
     let mut sum = 0;
     let mut j = 0;
     while j < n {
-        let k = rows::contract_of(rows::row_at(bytes, start + j));
+        let k = rows::contract_of(octets::row_at(bytes, start + j));
         sum += part_of(part, me, i, k, j);
         j += 1;
     }

@@ -10,7 +10,7 @@ use Rattle.rows.specs.Limits.{mostFactor, mostReading, mostOffer, mostAv
 use Rattle.rows.specs.Rows.{isAgent, carriesLosses, isGenerator, maySell, mayBuy, holdsPlants}
 use Rattle.rows.specs.Rows.{agentBlank, boundaryBlank, boundaryGood, plantGood, contractGood}
 use Rattle.rows.proofs.ByKind.{metered}
-use Rattle.rows.specs.declared.Words.{Words}
+use Rattle.octets.specs.declared.Words.{Words}
 use Rattle.rows.specs.declared.Boundary.{Boundary}
 use Rattle.rows.specs.declared.Plant.{Plant}
 use Rattle.rows.specs.declared.Contract.{Contract}

@@ -1,4 +1,2 @@
 pub mod ByKind
 pub mod Good
-pub mod Trip
-pub mod Stretch

@@ -17,7 +17,7 @@ fn hold(section: &[u8], amounts: &[u32], held: &mut [u32])
     let n = section.len() / 16;
     let mut j = 0;
     while j < n {
-        let k = rows::contract_of(rows::row_at(section, j));
+        let k = rows::contract_of(octets::row_at(section, j));
         let amount = amounts[j];
         let buyer = k.buyer as usize;
         let seller = k.seller as usize;

@@ -4,7 +4,7 @@ use Prim.Native.Nat.{ℕ, _*_, _+_, _/_, _%_}
 use mathlib.Core.Path.{_≡_, refl}
 use mathlib.Core.List.{List, [], _∷_, map, replicate}
 use Rattle.refusals.specs.Refusals.{firstBad, refusal}
-use Rattle.rows.specs.Bytes.{u32At, wordsAt}
+use Rattle.octets.specs.Bytes.{u32At, wordsAt}
 use Rattle.sheet.specs.Reading.{countsOf, distancesGood, layoutGood, kindAt, agentVerdict}
 use Rattle.sheet.specs.Reading.{boundaryVerdict, plantVerdict, contractVerdict, readVerdict, readOf}
 use Rattle.sheet.specs.Asking.{rowsIn, fields, fieldsAt, askedRow, rowOf}

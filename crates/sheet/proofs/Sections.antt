@@ -10,10 +10,10 @@ use lib.Dec.{leb, eqb}
 use borrow.Author.Tests.{leb-true, eqb-true, lt-ltb, le-ltb}
 use Rattle.refusals.specs.Refusals.{badLength, badLayout, refusal, firstBad}
 use Rattle.refusals.specs.declared.Verdict.{Verdict}
-use Rattle.rows.specs.Bytes.{wordsOf, wordsAt}
+use Rattle.octets.specs.Bytes.{wordsOf, wordsAt}
 use Rattle.rows.specs.Rows.{agentOf}
 use Rattle.sums.proofs.Tests.{and-left, and-right}
-use Rattle.rows.proofs.Stretch.{stretch-length, stretch-row}
+use Rattle.octets.proofs.Stretch.{stretch-length, stretch-row}
 use Rattle.sheet.specs.Reading.{boundaryStart, plantStart, contractStart, trailerStart, sheetLength, longest}
 use Rattle.sheet.specs.Reading.{lengthGood, countsOf, countsGood, distancesGood, layoutGood, kindAt, agentVerdict}
 use Rattle.sheet.specs.Reading.{boundaryVerdict, plantVerdict, contractVerdict, readVerdict, reading, readOf}

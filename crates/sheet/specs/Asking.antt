@@ -7,7 +7,7 @@ use lib.ListN.{take, drop}
 use lib.Dec.{leb, ltb, eqb}
 use Rattle.refusals.specs.Refusals.{notThere, refusedUnless, firstOf}
 use Rattle.refusals.specs.declared.Verdict.{Verdict}
-use Rattle.rows.specs.Bytes.{wordsAt}
+use Rattle.octets.specs.Bytes.{wordsAt}
 use Rattle.rows.specs.Rows.{agentOf, boundaryOf, plantOf, contractOf}
 use Rattle.rows.specs.declared.Agent.{Agent}
 use Rattle.rows.specs.declared.Boundary.{Boundary}

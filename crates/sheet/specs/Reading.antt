@@ -8,7 +8,7 @@ use lib.Dec.{leb, ltb, eqb}
 use Rattle.refusals.specs.Refusals.{badLength, badLayout, badAgent, badBoundary, badPlant, badContract, refusedUnless, firstOf, firstBad}
 use Rattle.refusals.specs.declared.Verdict.{Verdict}
 use Rattle.rows.specs.Limits.{mostAgents, mostBoundaries, mostPlants, mostContracts}
-use Rattle.rows.specs.Bytes.{wordsAt}
+use Rattle.octets.specs.Bytes.{wordsAt}
 use Rattle.rows.specs.Rows.{agentOf, boundaryOf, plantOf, contractOf, agentBlank, boundaryBlank}
 use Rattle.rows.specs.Rows.{fewRows, agentGood, boundaryGood, plantGood, contractGood}
 use Rattle.sheet.specs.declared.Counts.{Counts}

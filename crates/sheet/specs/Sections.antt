@@ -7,10 +7,10 @@ use mathlib.Core.Path.{_≡_}
 use lib.ListN.{length}
 use Rattle.refusals.specs.Refusals.{refusedUnless, firstOf, firstBad}
 use Rattle.refusals.specs.declared.Verdict.{Verdict}
-use Rattle.rows.specs.Bytes.{wordsAt}
+use Rattle.octets.specs.Bytes.{wordsAt}
 use Rattle.rows.specs.Rows.{agentOf, boundaryOf, plantOf, contractOf, agentBlank}
 use Rattle.rows.specs.Rows.{boundaryBlank, agentGood, boundaryGood, plantGood, contractGood}
-use Rattle.rows.specs.declared.Words.{Words}
+use Rattle.octets.specs.declared.Words.{Words}
 use Rattle.sheet.specs.Reading.{trailerStart, sheetLength, kindAt}
 use Rattle.sheet.specs.Asking.{bySection, rowsIn, rowsBefore}
 use Rattle.sheet.specs.declared.Counts.{Counts}

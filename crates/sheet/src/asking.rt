@@ -26,10 +26,10 @@ fn fields_at(s: &[u8], c: Counts, k: u32, i: usize) -> Fields
     ensures { λ r. ⌜ r ≡ fieldsAt (now (s .entry)) c k i ⌝ }
 {
     match k {
-        1 => agent_fields(rows::agent_of(rows::row_at(s, i))),
-        2 => boundary_fields(rows::boundary_of(rows::row_at(s, c.agents + i))),
-        3 => plant_fields(rows::plant_of(rows::row_at(s, c.agents + c.boundaries + i))),
-        4 => contract_fields(rows::contract_of(rows::row_at(
+        1 => agent_fields(rows::agent_of(octets::row_at(s, i))),
+        2 => boundary_fields(rows::boundary_of(octets::row_at(s, c.agents + i))),
+        3 => plant_fields(rows::plant_of(octets::row_at(s, c.agents + c.boundaries + i))),
+        4 => contract_fields(rows::contract_of(octets::row_at(
             s,
             c.agents + c.boundaries + c.plants + i,
         ))),

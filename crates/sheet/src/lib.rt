@@ -13,7 +13,7 @@ use rows::Agent;
 use rows::Boundary;
 use rows::Contract;
 use rows::Plant;
-use rows::Words;
+use octets::Words;
 
 pub mod asking;
 pub mod counting;
@@ -73,8 +73,8 @@ pub(crate) fn counts_of(s: &[u8]) -> Counts
     ensures { λ r. ⌜ (r ≡ countsOf (now (s .entry))) × Addable r ⌝ }
 {
     let t = s.len() / 16 - 2;
-    let u = rows::row_at(s, t);
-    let v = rows::row_at(s, t + 1);
+    let u = octets::row_at(s, t);
+    let v = octets::row_at(s, t + 1);
     Counts {
         agents: count(u.second),
         boundaries: count(u.fourth),
@@ -95,8 +95,8 @@ fn distances_good(s: &[u8], c: Counts) -> bool
     ensures { λ r. ⌜ r ≡ distancesGood (now (s .entry)) c ⌝ }
 {
     let t = s.len() / 16 - 2;
-    let u = rows::row_at(s, t);
-    let v = rows::row_at(s, t + 1);
+    let u = octets::row_at(s, t);
+    let v = octets::row_at(s, t + 1);
     let b = c.agents;
     let p = b + c.boundaries;
     let k = p + c.plants;
@@ -246,7 +246,7 @@ pub fn fields_in(a: RowRead) -> Fields
 fn kind_in(agents: &[u8], a: u32) -> u32
     ensures { λ r. ⌜ r ≡ kindIn (now (agents .entry)) a ⌝ }
 {
-    let agent = rows::agent_of(rows::row_at(agents, a as usize));
+    let agent = rows::agent_of(octets::row_at(agents, a as usize));
     agent.kind
 }
 
@@ -295,7 +295,7 @@ fn read_row(agents: &[u8], section: &[u8], k: u32, i: usize) -> Verdict
     requires { ⌜ (k ≤ 4) × Placeable i ⌝ }
     ensures { λ r. ⌜ r ≡ toldIn (now (agents .entry)) (now (section .entry)) k i ⌝ }
 {
-    if row_good(agents, k, rows::row_at(section, i)) {
+    if row_good(agents, k, octets::row_at(section, i)) {
         Verdict::Fine
     } else {
         refusals::refuse(k + 2, i as u32)

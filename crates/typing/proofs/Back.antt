@@ -10,9 +10,9 @@ use lib.Dec.{eqb, leb}
 use lib.ListN.{length, take, drop}
 use lib.Seq.{sets-eq, take-at}
 use Rattle.sums.specs.Sums.{pick}
-use Rattle.rows.specs.Bytes.{wordsAt}
-use Rattle.rows.specs.declared.Words.{Words}
-use Rattle.rows.proofs.Trip.{Narrow, Bytes, row-narrow}
+use Rattle.octets.specs.Bytes.{wordsAt}
+use Rattle.octets.specs.declared.Words.{Words}
+use Rattle.octets.proofs.Trip.{Narrow, Bytes, row-narrow}
 use Rattle.sheet.specs.Asking.{rowsIn, rowsBefore}
 use Rattle.sheet.specs.declared.Counts.{Counts}
 use Rattle.text.specs.Faults.{faultNumber, found, earlier}

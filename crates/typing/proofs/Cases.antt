@@ -6,7 +6,7 @@ use mathlib.Core.List.{List, [], _∷_, _++_, map}
 use Rattle.sums.specs.Sums.{pick}
 use Rattle.sums.specs.Lists.{listTo}
 use Rattle.refusals.specs.Refusals.{firstBad, refusal}
-use Rattle.rows.specs.Bytes.{u32At, wordsAt, word, byteOf, bytesOf}
+use Rattle.octets.specs.Bytes.{u32At, wordsAt, word, byteOf, bytesOf}
 use Rattle.sheet.specs.Reading.{countsOf, distancesGood, layoutGood, kindAt, agentVerdict, boundaryVerdict, plantVerdict}
 use Rattle.sheet.specs.Reading.{contractVerdict, readVerdict, readOf}
 use Rattle.sheet.specs.Asking.{rowsIn, rowsBefore}

@@ -7,7 +7,7 @@ use lib.ListN.{length}
 use Rattle.sums.specs.Lists.{at}
 use Rattle.sums.proofs.Fill.{filled-none}
 use Rattle.refusals.specs.declared.Refusal.{Refusal}
-use Rattle.rows.specs.declared.Words.{Words}
+use Rattle.octets.specs.declared.Words.{Words}
 use Rattle.sheet.specs.Reading.{readOf}
 use Rattle.sheet.specs.declared.Counts.{Counts}
 use Rattle.sheet.specs.declared.Reading.{Reading}

@@ -12,7 +12,7 @@ use Rattle.sums.specs.Lists.{at, listTo}
 use Rattle.rows.specs.declared.Boundary.{Boundary}
 use Rattle.rows.specs.declared.Plant.{Plant}
 use Rattle.rows.specs.declared.Contract.{Contract}
-use Rattle.rows.proofs.Trip.{Bytes}
+use Rattle.octets.proofs.Trip.{Bytes}
 use Rattle.sheet.specs.Reading.{readOf}
 use Rattle.sheet.specs.Asking.{agentAt, boundaryAt, plantAt, contractAt, rowsIn, rowsBefore}
 use Rattle.sheet.specs.declared.Counts.{Counts}

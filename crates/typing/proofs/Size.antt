@@ -6,7 +6,7 @@ use mathlib.Core.List.{List, [], _∷_}
 use native.Mathlib.Omega.{arith}
 use borrow.Author.Tests.{le-leb}
 use lib.ListN.{length, length-append}
-use Rattle.rows.specs.Bytes.{wordsAt}
+use Rattle.octets.specs.Bytes.{wordsAt}
 use Rattle.sheet.specs.Reading.{readOf, trailerStart}
 use Rattle.sheet.specs.Asking.{rowsIn, rowsBefore}
 use Rattle.sheet.specs.declared.Counts.{Counts}

@@ -16,8 +16,8 @@ use Rattle.refusals.specs.Refusals.{noRoom}
 use Rattle.refusals.specs.declared.Refusal.{Refusal}
 use Rattle.refusals.specs.declared.Verdict.{Verdict}
 use Rattle.refusals.proofs.Fine.{fine-test}
-use Rattle.rows.specs.Bytes.{byteOf}
-use Rattle.rows.proofs.Trip.{Bytes}
+use Rattle.octets.specs.Bytes.{byteOf}
+use Rattle.octets.proofs.Trip.{Bytes}
 use Rattle.sheet.specs.Reading.{readOf}
 use Rattle.sheet.specs.declared.Counts.{Counts}
 use Rattle.sheet.specs.declared.Reading.{Reading}

@@ -10,7 +10,7 @@ use Rattle.sums.specs.Lists.{Filled}
 use Rattle.sums.specs.Sums.{pick}
 use Rattle.refusals.specs.Refusals.{badAgent, badContract, cells}
 use Rattle.refusals.specs.declared.Refusal.{Refusal}
-use Rattle.rows.specs.Bytes.{byteOf}
+use Rattle.octets.specs.Bytes.{byteOf}
 use Rattle.sheet.specs.Reading.{sheetLength}
 use Rattle.text.specs.Faults.{found}
 use Rattle.text.specs.Lines.{lines, readLine}

@@ -5,8 +5,8 @@ use mathlib.Core.Path.{_≡_}
 use mathlib.Core.Bool.{false}
 use mathlib.Core.List.{List}
 use lib.ListN.{length, take, drop}
-use Rattle.rows.specs.Bytes.{wordsAt}
-use Rattle.rows.specs.declared.Words.{Words}
+use Rattle.octets.specs.Bytes.{wordsAt}
+use Rattle.octets.specs.declared.Words.{Words}
 use Rattle.sheet.specs.declared.Counts.{Counts}
 use Rattle.printing.specs.Text.{linesTo}
 use Rattle.printing.specs.Put.{PutInRoom}

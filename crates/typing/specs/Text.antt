@@ -5,9 +5,9 @@ use lib.ListN.{length}
 use lib.Dec.{leb}
 use Rattle.refusals.specs.Refusals.{noRoom, refusedUnless}
 use Rattle.refusals.specs.declared.Verdict.{Verdict}
-use Rattle.rows.specs.Bytes.{wordsAt}
+use Rattle.octets.specs.Bytes.{wordsAt}
 use Rattle.rows.specs.Rows.{agentOf, boundaryOf, plantOf, contractOf}
-use Rattle.rows.specs.declared.Words.{Words}
+use Rattle.octets.specs.declared.Words.{Words}
 use Rattle.rows.specs.declared.Boundary.{Boundary}
 use Rattle.rows.specs.declared.Plant.{Plant}
 use Rattle.rows.specs.declared.Contract.{Contract}

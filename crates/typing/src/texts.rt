@@ -13,7 +13,7 @@ use rows::Agent;
 use rows::Boundary;
 use rows::Contract;
 use rows::Plant;
-use rows::Words;
+use octets::Words;
 use sheet::Counts;
 use sheet::Reading;
 use text::puts;
@@ -80,7 +80,7 @@ fn put_section(s: &mut [u8], at: usize, sheet: &[u8], k: u32, start: usize, n: u
     let mut left = n;
     while left > 0 {
         left -= 1;
-        i = put_line(s, i, k, rows::row_at(sheet, start + left));
+        i = put_line(s, i, k, octets::row_at(sheet, start + left));
     }
     i
 }

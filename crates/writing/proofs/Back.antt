@@ -8,11 +8,11 @@ use borrow.Author.Tests.{eqb-true}
 use lib.ListN.{length}
 use lib.Dec.{eqb}
 use Rattle.sums.proofs.Tests.{all-true}
-use Rattle.rows.specs.Bytes.{wordsAt, wordsOf}
+use Rattle.octets.specs.Bytes.{wordsAt, wordsOf}
 use Rattle.rows.specs.Rows.{agentGood}
-use Rattle.rows.specs.declared.Words.{Words}
+use Rattle.octets.specs.declared.Words.{Words}
 use Rattle.rows.proofs.Good.{agent-blank, boundary-blank}
-use Rattle.rows.proofs.Trip.{Bytes, row-narrow, bytes-back}
+use Rattle.octets.proofs.Trip.{Bytes, row-narrow, bytes-back}
 use Rattle.sheet.specs.Reading.{boundaryStart, plantStart, contractStart, trailerStart, countsOf, distancesGood}
 use Rattle.sheet.specs.declared.Counts.{Counts}
 use Rattle.sheet.proofs.Accepted.{Whole}

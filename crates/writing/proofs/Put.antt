@@ -6,9 +6,9 @@ use mathlib.Core.List.{List}
 use lib.ListN.{length, set}
 use Rattle.sums.specs.Lists.{Filled}
 use Rattle.sums.proofs.Fill.{filled-more}
-use Rattle.rows.specs.Bytes.{word, byteOf}
-use Rattle.rows.specs.declared.Words.{Words}
-use Rattle.rows.proofs.Trip.{byte-is}
+use Rattle.octets.specs.Bytes.{word, byteOf}
+use Rattle.octets.specs.declared.Words.{Words}
+use Rattle.octets.proofs.Trip.{byte-is}
 use Rattle.writing.specs.Put.{putNumber, putRow}
 
 module _ (d : List ℕ) (f : ℕ → Words) (r : ℕ) where

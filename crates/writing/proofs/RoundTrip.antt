@@ -9,8 +9,8 @@ use Rattle.sums.specs.Lists.{listTo, Filled}
 use Rattle.sums.proofs.Fill.{filled-front, filled-unique, filled-same}
 use Rattle.refusals.specs.declared.Refusal.{Refusal}
 use Rattle.refusals.specs.declared.Verdict.{Verdict}
-use Rattle.rows.specs.Bytes.{byteOf, bytesOf}
-use Rattle.rows.proofs.Trip.{Bytes}
+use Rattle.octets.specs.Bytes.{byteOf, bytesOf}
+use Rattle.octets.proofs.Trip.{Bytes}
 use Rattle.sheet.specs.Reading.{trailerStart, sheetLength, readOf}
 use Rattle.rows.specs.declared.Agent.{Agent}
 use Rattle.rows.specs.declared.Boundary.{Boundary}

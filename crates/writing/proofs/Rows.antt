@@ -2,15 +2,15 @@
 use Prim.Native.Nat.{ℕ, _<_}
 use native.Mathlib.Omega.{arith}
 use mathlib.Core.Path.{_≡_, refl, ap, sym, _∙_}
-use Rattle.rows.specs.Bytes.{wordsOf}
+use Rattle.octets.specs.Bytes.{wordsOf}
 use Rattle.rows.specs.Rows.{low, high, agentOf, boundaryOf, plantOf, contractOf}
-use Rattle.rows.specs.declared.Words.{Words}
+use Rattle.octets.specs.declared.Words.{Words}
 use Rattle.rows.specs.declared.Agent.{Agent}
 use Rattle.rows.specs.declared.Boundary.{Boundary}
 use Rattle.rows.specs.declared.Plant.{Plant}
 use Rattle.rows.specs.declared.Contract.{Contract}
 use Rattle.rows.proofs.Good.{AgentBlank}
-use Rattle.rows.proofs.Trip.{Narrow}
+use Rattle.octets.proofs.Trip.{Narrow}
 use Rattle.writing.specs.Words.{halves, agentWords, boundaryWords, plantWords, contractWords}
 
 -- ---- two 16-bit numbers in one

@@ -7,11 +7,11 @@ use borrow.Author.Tests.{lt-ltb, le-ltb, eq-eqb}
 use lib.ListN.{length}
 use lib.Dec.{eqb}
 use Rattle.sums.specs.Lists.{at}
-use Rattle.rows.specs.Bytes.{wordsAt, wordsOf}
+use Rattle.octets.specs.Bytes.{wordsAt, wordsOf}
 use Rattle.rows.specs.Rows.{agentOf, boundaryOf, plantOf, contractOf, agentGood}
-use Rattle.rows.specs.declared.Words.{Words}
+use Rattle.octets.specs.declared.Words.{Words}
 use Rattle.rows.proofs.Good.{BoundaryFits, boundary-fits, PlantFits, plant-fits, ContractFits, contract-fits}
-use Rattle.rows.proofs.Trip.{Narrow, rows-back, length-bytesOf}
+use Rattle.octets.proofs.Trip.{Narrow, rows-back, length-bytesOf}
 use Rattle.sheet.specs.Reading.{boundaryStart, plantStart, contractStart, trailerStart, sheetLength, countsOf, distancesGood}
 use Rattle.sheet.specs.declared.Counts.{Counts}
 use Rattle.sheet.proofs.Accepted.{Whole, Few}

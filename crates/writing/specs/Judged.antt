@@ -10,7 +10,7 @@ use Rattle.sums.specs.Lists.{at, Filled}
 use Rattle.refusals.specs.Refusals.{badLayout, badAgent, badBoundary, badPlant, badContract}
 use Rattle.refusals.specs.Refusals.{noRoom, refusedUnless, firstOf, firstBad, cells}
 use Rattle.refusals.specs.declared.Verdict.{Verdict}
-use Rattle.rows.specs.Bytes.{byteOf}
+use Rattle.octets.specs.Bytes.{byteOf}
 use Rattle.rows.specs.Rows.{agentGood, boundaryGood, plantGood, contractGood}
 use Rattle.sheet.specs.Reading.{countsGood, sheetLength}
 use Rattle.sheet.specs.Asking.{bySection, rowsIn}

@@ -2,7 +2,7 @@
 use Prim.Native.Nat.{ℕ, _+_, _/_, _%_}
 use mathlib.Core.List.{List}
 use lib.ListN.{set}
-use Rattle.rows.specs.declared.Words.{Words}
+use Rattle.octets.specs.declared.Words.{Words}
 
 -- a 32-bit number, least byte first, and a row of four, put into bytes at k
 unfoldable pub putNumber : List ℕ → ℕ → ℕ → List ℕ

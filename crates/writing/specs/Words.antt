@@ -3,9 +3,9 @@ use Prim.Native.Nat.{ℕ, _+_, _-_, _*_}
 use mathlib.Core.Bool.{cond}
 use mathlib.Core.List.{List}
 use lib.Dec.{ltb, eqb}
-use Rattle.rows.specs.Bytes.{wordsOf, bytesOf}
+use Rattle.octets.specs.Bytes.{wordsOf, bytesOf}
 use Rattle.rows.specs.Rows.{low}
-use Rattle.rows.specs.declared.Words.{Words}
+use Rattle.octets.specs.declared.Words.{Words}
 use Rattle.rows.specs.declared.Agent.{Agent}
 use Rattle.rows.specs.declared.Boundary.{Boundary}
 use Rattle.rows.specs.declared.Plant.{Plant}

@@ -4,7 +4,7 @@ ghost use mathlib.Core.Bool.{true};
 ghost use Prim.Native.Nat.{_+_, _*_, _≤_, _<_};
 ghost use lib.ListN.{length};
 ghost use Rattle.sums.specs.Lists.{Filled};
-ghost use Rattle.rows.specs.Bytes.{byteOf};
+ghost use Rattle.octets.specs.Bytes.{byteOf};
 ghost use Rattle.sheet.specs.Reading.{trailerStart};
 ghost use Rattle.writing.specs.Numbers.{numbers, countsIn};
 ghost use Rattle.writing.specs.Words.{halves, agentWords, boundaryWords, plantWords, contractWords, trailerWords, sheetRow};
@@ -14,7 +14,7 @@ use rows::Agent;
 use rows::Boundary;
 use rows::Contract;
 use rows::Plant;
-use rows::Words;
+use octets::Words;
 use sheet::Counts;
 
 // Two 16-bit numbers in one.

@@ -3,7 +3,7 @@ use native.Mathlib.Omega.{arith}
 use Prim.Native.Nat.{_≤_, _-_}
 use mathlib.Core.Path.{_≡_}
 use Rattle.rows.specs.Rows.{agentOf}
-use Rattle.rows.specs.Bytes.{wordsAt}
+use Rattle.octets.specs.Bytes.{wordsAt}
 use Rattle.sums.specs.Lists.{Filled}
 use Rattle.sums.proofs.Fill.{filled-none, filled-more, filled-by}
 use Rattle.balance.proofs.Rows.{kind-is}

@@ -1,4 +1,4 @@
-use Rattle.rows.specs.Bytes.{byteOf}
+use Rattle.octets.specs.Bytes.{byteOf}
 use Rattle.mend.specs.Mend.{mendedAt}
 use borrow.Author.Needs.{needs}
 use Rattle.mend.proofs.mended_at.Statement.{statement}

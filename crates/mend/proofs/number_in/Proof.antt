@@ -1,5 +1,5 @@
 use borrow.Author.Tests.{ne-eqb}
-use Rattle.rows.specs.Bytes.{word}
+use Rattle.octets.specs.Bytes.{word}
 use Rattle.mend.proofs.number_in.Statement.{statement}
 use Rattle.mend.proofs.number_in.Tie as tie
 

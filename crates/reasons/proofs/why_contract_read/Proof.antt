@@ -6,7 +6,7 @@ use denote.Ref.{now}
 use Rattle.refusals.specs.declared.Verdict.{Verdict}
 use Rattle.rows.specs.Rows.{contractOf}
 use Rattle.rows.specs.declared.Contract.{Contract}
-use Rattle.rows.specs.declared.Words.{Words}
+use Rattle.octets.specs.declared.Words.{Words}
 use Rattle.sheet.specs.Asking.{contractAt}
 use Rattle.sheet.proofs.Accepted.{accepted-few, accepted-contract}
 use Rattle.columns.specs.Columns.{hourOf, sheetVerdict}

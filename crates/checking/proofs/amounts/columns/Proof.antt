@@ -3,7 +3,7 @@ use native.Mathlib.Omega.{arith}
 use Prim.Native.Nat.{ℕ, _≤_, _<_, _-_}
 use mathlib.Core.List.{List}
 use mathlib.Core.Path.{_≡_, ap, _∙_, sym}
-use Rattle.rows.specs.Bytes.{wordsAt}
+use Rattle.octets.specs.Bytes.{wordsAt}
 use Rattle.rows.specs.Rows.{contractOf}
 use Rattle.rows.specs.declared.Contract.{Contract}
 use Rattle.sums.specs.Lists.{at, Filled}

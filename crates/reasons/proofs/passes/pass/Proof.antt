@@ -5,7 +5,7 @@ use mathlib.Core.List.{List}
 use mathlib.Core.Path.{_≡_, ap, _∙_, sym}
 use denote.Ref.{now}
 use Rattle.rows.specs.Limits.{mostQuantity}
-use Rattle.rows.specs.Bytes.{wordsAt}
+use Rattle.octets.specs.Bytes.{wordsAt}
 use Rattle.rows.specs.Rows.{contractOf}
 use Rattle.rows.specs.declared.Contract.{Contract}
 use Rattle.sums.specs.Sums.{sum}

@@ -7,8 +7,8 @@ use denote.Ref.{now}
 use lib.ListN.{length, drop}
 use Rattle.printing.specs.Text.{linesTo}
 use Rattle.printing.proofs.Text.{lines-more, lines-none}
-use Rattle.rows.specs.Bytes.{wordsAt}
-use Rattle.rows.specs.declared.Words.{Words}
+use Rattle.octets.specs.Bytes.{wordsAt}
+use Rattle.octets.specs.declared.Words.{Words}
 use Rattle.text.specs.Written.{rowText}
 use Rattle.typing.specs.Text.{wordFor, rowTyped}
 use Rattle.typing.proofs.texts.put_section.Statement.{statement}

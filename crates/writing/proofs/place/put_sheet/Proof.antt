@@ -2,7 +2,7 @@ use Rattle.writing.specs.Words.{sheetRow}
 use Rattle.writing.specs.Numbers.{numbers}
 use Rattle.sums.specs.Lists.{Filled}
 use Rattle.sums.proofs.Fill.{filled-none}
-use Rattle.rows.specs.Bytes.{byteOf}
+use Rattle.octets.specs.Bytes.{byteOf}
 use Rattle.writing.proofs.Put.{row-more}
 use Prim.Native.Nat.{_≤_, _-_, _*_}
 use mathlib.Core.Path.{_≡_}

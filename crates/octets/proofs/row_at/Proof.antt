@@ -1,8 +1,8 @@
 use borrow.Author.Needs.{needs}
 use borrow.Author.Tests.{lt-ltb, le-ltb}
-use Rattle.rows.specs.Bytes.{wordsAt}
-use Rattle.rows.proofs.row_at.Statement.{statement}
-use Rattle.rows.proofs.row_at.Tie as tie
+use Rattle.octets.specs.Bytes.{wordsAt}
+use Rattle.octets.proofs.row_at.Statement.{statement}
+use Rattle.octets.proofs.row_at.Tie as tie
 
 returns : tie.Need-returns
 unfolding wordsAt

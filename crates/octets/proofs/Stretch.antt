@@ -7,7 +7,7 @@ use borrow.Author.Tests.{lt-ltb}
 use lib.ListN.{length, take, drop, length-drop}
 use lib.Seq.{getD-take, getD-drop, length-take-le}
 use Rattle.sums.specs.Lists.{at}
-use Rattle.rows.specs.Bytes.{u32At, wordsAt}
+use Rattle.octets.specs.Bytes.{u32At, wordsAt}
 
 -- the n rows from row a on
 abbrev pub stretch : List ℕ → (a n : ℕ) → List ℕ

@@ -8,8 +8,8 @@ use borrow.Author.Tests.{lt-ltb, le-ltb}
 use lib.ListN.{length, getD}
 use Rattle.sums.specs.Lists.{at, listTo}
 use Rattle.sums.proofs.Lists.{length-listTo, getD-listTo, listTo-is}
-use Rattle.rows.specs.Bytes.{u32At, wordsAt, word, byteOf, bytesOf}
-use Rattle.rows.specs.declared.Words.{Words}
+use Rattle.octets.specs.Bytes.{u32At, wordsAt, word, byteOf, bytesOf}
+use Rattle.octets.specs.declared.Words.{Words}
 
 -- each number of a row fits 32 bits
 pub record Narrow (w : Words) : Type 0 where

@@ -6,7 +6,7 @@ use mathlib.Core.List.{List}
 use lib.ListN.{length, getD}
 use lib.Dec.{ltb, eqb}
 use Rattle.sums.specs.Lists.{at, listTo}
-use Rattle.rows.specs.declared.Words.{Words}
+use Rattle.octets.specs.declared.Words.{Words}
 
 -- the 32-bit number at byte k
 unfoldable pub u32At : List ℕ → ℕ → ℕ

@@ -1,7 +1,7 @@
 use borrow.Author.Needs.{needs}
-use Rattle.rows.specs.Bytes.{u32At}
-use Rattle.rows.proofs.u32_at.Statement.{statement}
-use Rattle.rows.proofs.u32_at.Tie as tie
+use Rattle.octets.specs.Bytes.{u32At}
+use Rattle.octets.proofs.u32_at.Statement.{statement}
+use Rattle.octets.proofs.u32_at.Tie as tie
 
 returns : tie.Need-returns
 unfolding u32At
