@@ -5,8 +5,8 @@ ghost use lib.ListN.{length};
 ghost use Rattle.octets.specs.Bytes.{word};
 ghost use Rattle.mend.specs.Mend.{rowMended, mendedAt, changes, Mends};
 ghost use Rattle.mend.specs.Steps.{Small, Mendable, MendRoomy, noted, notes, Copied, MendsCounted};
-use refusals::Refusal;
 use octets::Words;
+use refusals::Refusal;
 use sheet::Counts;
 use sheet::counting::Counting;
 

@@ -43,7 +43,14 @@ fn accepted_page(sheet: &[u8], c: Counts, out: &mut [u8]) -> Printed
     let mut schedule = [0u32; Plant::MOST];
     let mut amounts = [0u32; Contract::MOST];
     let mut kinds = [0u32; Agent::MOST];
-    let r = settle::settle_read(sheet, c, &mut figures, &mut money, &mut schedule, &mut amounts);
+    let r = settle::settle_read(
+        sheet,
+        c,
+        &mut figures,
+        &mut money,
+        &mut schedule,
+        &mut amounts,
+    );
     fill_kinds(sheet, c, &mut kinds);
     let n = c.agents;
     let cells = Agent::CELLS * n;

@@ -7,13 +7,13 @@ ghost use Rattle.sheet.specs.Asking.{rowsIn, rowsBefore, sectionOf, agen
 ghost use Rattle.sheet.specs.Asking.{plantFields, contractFields, verdictIn, fieldsIn};
 ghost use Rattle.sheet.specs.Sections.{Addable, Placeable, kindIn, agentRowGood, boundaryRowGood, plantRowGood};
 ghost use Rattle.sheet.specs.Sections.{contractRowGood, sectionRowGood, toldIn, sectionVerdict, rowsVerdict, Laid};
+use octets::Words;
 use refusals::Refusal;
 use refusals::Verdict;
 use rows::Agent;
 use rows::Boundary;
 use rows::Contract;
 use rows::Plant;
-use octets::Words;
 
 pub mod asking;
 pub mod counting;

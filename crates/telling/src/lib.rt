@@ -96,7 +96,14 @@ fn tell_accepted(sheet: &[u8], c: Counts, out: &mut [u8]) -> Printed
     let mut money = [0i64; Agent::MOST];
     let mut schedule = [0u32; Plant::MOST];
     let mut amounts = [0u32; Contract::MOST];
-    let r = settle::settle_read(sheet, c, &mut figures, &mut money, &mut schedule, &mut amounts);
+    let r = settle::settle_read(
+        sheet,
+        c,
+        &mut figures,
+        &mut money,
+        &mut schedule,
+        &mut amounts,
+    );
     if r.number != 0 {
         return Printed::Refused(Refusal {
             number: r.number,
