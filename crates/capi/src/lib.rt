@@ -10,12 +10,11 @@ ghost use Rattle.refusals.specs.Refusals.{numberOf};
 ghost use Rattle.sheet.specs.Reading.{readOf};
 ghost use Rattle.writing.specs.Numbers.{numbers};
 ghost use Rattle.capi.specs.Told.{ShareTold, ReadTold, WriteTold, SettleTold, CheckTold, PageTold};
-ghost use Rattle.checking.specs.Check.{stated};
-ghost use Rattle.settle.specs.Settled.{lent};
 
 pub mod texts;
 pub mod whole_day;
 pub mod why;
+ghost use Rattle.hour.specs.Answer.{lent};
 
 use printing::Printed;
 use refusals::Refusal;
@@ -148,7 +147,7 @@ pub extern "C" fn naomhral_check(
     answer: &mut [u32],
 ) -> u32
     ensures { λ r. ⌜ CheckTold (now (sheet .entry)) price
-        (stated (now (figures .entry)) (now (money .entry)) (now (schedule .entry)) (now (amounts .entry)))
+        (lent (now (figures .entry)) (now (money .entry)) (now (schedule .entry)) (now (amounts .entry)))
         (now (answer .entry)) r (now (answer .exit)) ⌝ }
 {
     if answer.len() < 2 {

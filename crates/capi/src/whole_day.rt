@@ -3,7 +3,7 @@ ghost use mathlib.Core.Path.{_≡_};
 ghost use Prim.Native.Nat.{_≤_, _<_};
 ghost use lib.ListN.{length};
 ghost use Rattle.sums.specs.Lists.{at, Filled};
-ghost use Rattle.settle.specs.Settled.{lent};
+ghost use Rattle.hour.specs.Answer.{lent};
 ghost use Rattle.capi.specs.Told.{summaryAnswer};
 ghost use Rattle.capi.specs.WholeDay.{hourNumbers, dayNumbers, dayCell, DayTold};
 use crate::number_of;

@@ -1,7 +1,6 @@
 -- Document 02, P6: what a check of an administrator's statement answers, for any bytes, a price and four lists. Assumes nothing.
 use Prim.Native.Nat.{ℕ}
 use mathlib.Core.List.{List, [], _∷_}
-use lib.IntN.{ℤ}
 use Rattle.refusals.specs.Refusals.{firstOf}
 use Rattle.refusals.specs.declared.Verdict.{Verdict}
 use Rattle.sheet.specs.Reading.{readVerdict}
@@ -9,10 +8,6 @@ use Rattle.columns.specs.Columns.{hourOf}
 use Rattle.hour.specs.Sheet.{Sheet}
 use Rattle.hour.specs.Answer.{Lent, hourVerdict}
 use Rattle.statement.specs.Tests.{pointsVerdict}
-
--- the four lists of a statement
-abbrev pub stated : List ℕ → List ℤ → List ℕ → List ℕ → Lent
-stated figures money schedule amounts = record { figures = figures; money = money; schedule = schedule; amounts = amounts }
 
 -- of a sheet that reading accepts: the refusals of its hour, then the first point that fails
 unfoldable pub statedVerdict : Sheet → (price : ℕ) → Lent → Verdict

@@ -20,10 +20,10 @@ ghost use Rattle.rows.specs.Limits.{mostAgents};
 ghost use Rattle.sheet.specs.Reading.{readOf};
 ghost use Rattle.sheet.specs.declared.Reading.{Reading};
 ghost use Rattle.columns.specs.Columns.{columnsOf};
-ghost use Rattle.hour.specs.Answer.{Roomy};
+ghost use Rattle.hour.specs.Answer.{lent, Roomy};
 ghost use Rattle.statement.specs.Tests.{pointsVerdict};
 ghost use Rattle.checking.specs.Parts.{Weighs, Demands, tradeVerdict};
-ghost use Rattle.checking.specs.Check.{stated, statedVerdict, checkVerdict};
+ghost use Rattle.checking.specs.Check.{statedVerdict, checkVerdict};
 
 // Points 22 to 25, on the demands that their shares make.
 fn trades(
@@ -40,12 +40,12 @@ fn trades(
     amounts: &[u32],
 ) -> Verdict
     requires { ⌜ readOf (now bytes) ≡ Reading.Accepted c ⌝ }
-    requires { ⌜ Roomy (columnsOf (now bytes) c) (stated (now figures) (now money) (now schedule) (now amounts))
-        × Demands (columnsOf (now bytes) c) (stated (now figures) (now money) (now schedule) (now amounts))
+    requires { ⌜ Roomy (columnsOf (now bytes) c) (lent (now figures) (now money) (now schedule) (now amounts))
+        × Demands (columnsOf (now bytes) c) (lent (now figures) (now money) (now schedule) (now amounts))
         (now kinds) demands (now imports) (now injected)
         × (length demands ≡ mostAgents) ⌝ }
     ensures { λ r. ⌜ r ≡ tradeVerdict (columnsOf (now (bytes .entry)) c) price
-        (stated (now (figures .entry)) (now (money .entry)) (now (schedule .entry)) (now (amounts .entry))) ⌝ }
+        (lent (now (figures .entry)) (now (money .entry)) (now (schedule .entry)) (now (amounts .entry))) ⌝ }
 {
     let n = c.agents;
     let retailers = shares::total(&demands, n);
@@ -89,10 +89,10 @@ fn points(
     amounts: &[u32],
 ) -> Verdict
     requires { ⌜ readOf (now bytes) ≡ Reading.Accepted c ⌝ }
-    requires { ⌜ Roomy (columnsOf (now bytes) c) (stated (now figures) (now money) (now schedule) (now amounts))
+    requires { ⌜ Roomy (columnsOf (now bytes) c) (lent (now figures) (now money) (now schedule) (now amounts))
         × Weighs (columnsOf (now bytes) c) (now kinds) (now used) (now imports) (now injected) losses ⌝ }
     ensures { λ r. ⌜ r ≡ pointsVerdict (columnsOf (now (bytes .entry)) c) price
-        (stated (now (figures .entry)) (now (money .entry)) (now (schedule .entry)) (now (amounts .entry))) ⌝ }
+        (lent (now (figures .entry)) (now (money .entry)) (now (schedule .entry)) (now (amounts .entry))) ⌝ }
 {
     let n = c.agents;
     let consumed = shares::total(used, n);
@@ -128,7 +128,7 @@ fn check_read(
 ) -> Verdict
     requires { ⌜ readOf (now bytes) ≡ Reading.Accepted c ⌝ }
     ensures { λ r. ⌜ r ≡ statedVerdict (columnsOf (now (bytes .entry)) c) price
-        (stated (now (figures .entry)) (now (money .entry)) (now (schedule .entry)) (now (amounts .entry))) ⌝ }
+        (lent (now (figures .entry)) (now (money .entry)) (now (schedule .entry)) (now (amounts .entry))) ⌝ }
 {
     let mut kinds = [0u32; Agent::MOST];
     let mut ours = [0u32; Agent::MOST];
@@ -182,7 +182,7 @@ pub fn check(
     amounts: &[u32],
 ) -> Verdict
     ensures { λ r. ⌜ r ≡ checkVerdict (now (bytes .entry)) price
-        (stated (now (figures .entry)) (now (money .entry)) (now (schedule .entry)) (now (amounts .entry))) ⌝ }
+        (lent (now (figures .entry)) (now (money .entry)) (now (schedule .entry)) (now (amounts .entry))) ⌝ }
 {
     match sheet::read(bytes) {
         Reading::Accepted(c) => check_read(bytes, c, price, figures, money, schedule, amounts),

@@ -18,9 +18,9 @@ use Rattle.refusals.specs.declared.Refusal.{Refusal}
 use Rattle.refusals.specs.declared.Verdict.{Verdict}
 use Rattle.refusals.proofs.Fine.{fine-parts, fine-test}
 use Rattle.columns.specs.Columns.{hourOf}
-use Rattle.hour.specs.Answer.{Lent, summaryOf}
+use Rattle.hour.specs.Answer.{Lent, lent, summaryOf}
 use Rattle.hour.specs.declared.Summary.{Summary}
-use Rattle.settle.specs.Settled.{lent, Settled}
+use Rattle.settle.specs.Settled.{Settled}
 use Rattle.day.specs.Day.{hours, startOf, hourSheet, figuresPart, moneyPart, schedulePart, amountsPart, part}
 use Rattle.day.specs.Day.{partOf, roomForDay, wholeVerdict, dayVerdict, KeptFrom, noSummary, DayOutcome}
 use Rattle.day.specs.Steps.{Fits, HasPart, OnlyPart, OneHour, HoursDone}

@@ -13,9 +13,9 @@ use Rattle.refusals.specs.declared.Refusal.{Refusal}
 use Rattle.refusals.specs.declared.Verdict.{Verdict}
 use Rattle.refusals.proofs.Fine.{not-fine}
 use Rattle.columns.specs.Columns.{hourOf}
-use Rattle.hour.specs.Answer.{Lent, summaryOf}
+use Rattle.hour.specs.Answer.{Lent, lent, summaryOf}
 use Rattle.hour.specs.declared.Summary.{Summary}
-use Rattle.settle.specs.Settled.{lent, Settled}
+use Rattle.settle.specs.Settled.{Settled}
 use Rattle.settle.proofs.Judged.{settled-unique}
 use Rattle.day.specs.Day.{hours, hourSheet, figuresPart, moneyPart, schedulePart, amountsPart, part}
 use Rattle.day.specs.Day.{partOf, dayVerdict, HourIs, KeptFrom, noSummary, DayOutcome, DaySettled}

@@ -15,9 +15,9 @@ use Rattle.refusals.specs.declared.Verdict.{Verdict}
 use Rattle.rows.specs.Limits.{mostAgents, mostPlants, mostContracts}
 use Rattle.columns.specs.Columns.{hourOf}
 use Rattle.hour.specs.Lines.{cellsPerAgent}
-use Rattle.hour.specs.Answer.{Lent, summaryOf}
+use Rattle.hour.specs.Answer.{Lent, lent, summaryOf}
 use Rattle.hour.specs.declared.Summary.{Summary}
-use Rattle.settle.specs.Settled.{lent, Settled}
+use Rattle.settle.specs.Settled.{Settled}
 
 -- 'one behind another, with a length for each': where hour h's sheet begins, and the sheet
 abbrev pub startOf : (lengths : List ℕ) → ℕ → ℕ

@@ -10,7 +10,7 @@ ghost use Prim.Native.Nat.{_+_, _*_, _≤_};
 ghost use mathlib.Core.List.{[], _∷_};
 ghost use lib.ListN.{replicate};
 ghost use Rattle.refusals.specs.Refusals.{badLength, noRoom, refusedUnless, firstOf};
-ghost use Rattle.settle.specs.Settled.{lent};
+ghost use Rattle.hour.specs.Answer.{lent};
 ghost use Rattle.day.specs.Day.{startOf, hours, roomForDay, wholeVerdict, DaySettled};
 ghost use Rattle.day.specs.Steps.{Fits, HasPart, OneHour, HoursDone};
 

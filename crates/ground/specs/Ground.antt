@@ -6,11 +6,11 @@ use lib.IntN.{ℤ}
 use Rattle.sums.specs.Lists.{at, Filled}
 use Rattle.refusals.specs.declared.Verdict.{Verdict}
 use Rattle.hour.specs.Sheet.{Sheet}
-use Rattle.hour.specs.Answer.{hourVerdict}
+use Rattle.hour.specs.Answer.{lent, hourVerdict}
 
 -- the verdict on the hour of the sheet h, for these four lists: refusals 7 to 10, 13 and 11
 abbrev pub admission : (h : Sheet) (figures : List ℕ) (money : List ℤ) (schedule amounts : List ℕ) → Verdict
-admission h f m s a = hourVerdict h (record { figures = f; money = m; schedule = s; amounts = a })
+admission h f m s a = hourVerdict h (lent f m s a)
 
 -- the columns of a sheet's plants, a cell a plant
 pub record Fleet : Type 0 where

@@ -22,6 +22,9 @@ pub record Lent : Type 0 where
   pub schedule : List ℕ
   pub amounts : List ℕ
 
+abbrev pub lent : List ℕ → List ℤ → List ℕ → List ℕ → Lent
+lent figures money schedule amounts = record { figures = figures; money = money; schedule = schedule; amounts = amounts }
+
 -- the same by agent, plant and contract
 abbrev pub shareIn : Lent → ℕ → ℕ
 shareIn l a = at (l .figures) (cellsPerAgent * a)

@@ -20,14 +20,14 @@ use Rattle.sheet.specs.declared.Counts.{Counts}
 use Rattle.sheet.specs.declared.Reading.{Reading}
 use Rattle.hour.specs.Sheet.{agents}
 use Rattle.hour.specs.Lines.{figure, money}
-use Rattle.hour.specs.Answer.{Lent, roomVerdict, summaryOf}
+use Rattle.hour.specs.Answer.{Lent, lent, roomVerdict, summaryOf}
 use Rattle.hour.specs.declared.Summary.{Summary}
 use Rattle.columns.specs.Columns.{columnsOf, hourOf, sheetVerdict}
 use Rattle.columns.proofs.Columns.{agents-long}
 use Rattle.refusals.proofs.Fine.{else-fine}
 use Rattle.columns.proofs.Numbers.{read-between}
 use Rattle.columns.proofs.Refusing.{Told, told, told-all, none-of, room-enough}
-use Rattle.settle.specs.Settled.{lent, verdictOf, Settled}
+use Rattle.settle.specs.Settled.{verdictOf, Settled}
 use Rattle.printing.specs.Page.{pageOf, printVerdict, printed}
 use Rattle.printing.specs.declared.Printed.{Printed}
 use Rattle.printing.proofs.Printing.{one-outcome as printed-once}

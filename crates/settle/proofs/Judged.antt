@@ -17,11 +17,11 @@ use Rattle.sheet.proofs.Accepted.{accepted-counts, accepted-fine, refused-verdi
 use Rattle.columns.specs.Columns.{columnsOf, hourOf}
 use Rattle.hour.specs.Sheet.{Sheet, agents}
 use Rattle.hour.specs.Balance.{commercial, demands}
-use Rattle.hour.specs.Answer.{Lent}
+use Rattle.hour.specs.Answer.{Lent, lent}
 use Rattle.hour.specs.declared.Summary.{Summary}
 use Rattle.balance.specs.Balances.{zeros}
 use Rattle.settle.specs.Parts.{turnedAway}
-use Rattle.settle.specs.Settled.{lent, verdictOf, Outcome, Settles, Settled}
+use Rattle.settle.specs.Settled.{verdictOf, Outcome, Settles, Settled}
 
 -- ---- from reading to the bytes
 pub settled-read : (bytes : List ℕ) (c : Counts) (before after : Lent) (r : Summary)

@@ -2,7 +2,7 @@
 use Prim.Native.Nat.{ℕ, _*_}
 use mathlib.Core.List.{List}
 use mathlib.Core.Path.{_≡_}
-use lib.IntN.{ℤ, pos}
+use lib.IntN.{pos}
 use Rattle.sums.specs.Lists.{Filled}
 use Rattle.refusals.specs.Refusals.{orElse, cells}
 use Rattle.refusals.specs.declared.Verdict.{Verdict}
@@ -12,9 +12,6 @@ use Rattle.hour.specs.Sheet.{Sheet, agents, plants, contracts}
 use Rattle.hour.specs.Lines.{scheduled, amount, money, cellsPerAgent, figure}
 use Rattle.hour.specs.Answer.{Lent, hourVerdict, summaryOf}
 use Rattle.hour.specs.declared.Summary.{Summary}
-
-abbrev pub lent : List ℕ → List ℤ → List ℕ → List ℕ → Lent
-lent figures money schedule amounts = record { figures = figures; money = money; schedule = schedule; amounts = amounts }
 
 -- refusals 1 to 6 are reading's, 7 to 11 the hour's
 unfoldable pub verdictOf : List ℕ → Lent → Verdict

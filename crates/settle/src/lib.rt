@@ -18,7 +18,8 @@ ghost use Rattle.sheet.specs.declared.Reading.{Reading};
 ghost use Rattle.columns.specs.Columns.{columnsOf};
 ghost use Rattle.balance.specs.Balances.{zeros};
 ghost use Rattle.settle.specs.Parts.{Covered, Demanding, Trades, turnedAway};
-ghost use Rattle.settle.specs.Settled.{lent, Settled};
+ghost use Rattle.hour.specs.Answer.{lent};
+ghost use Rattle.settle.specs.Settled.{Settled};
 
 fn turned_away(r: Refusal) -> Summary
     ensures { λ s. ⌜ s ≡ turnedAway r ⌝ }

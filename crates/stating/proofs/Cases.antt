@@ -6,7 +6,7 @@ use mathlib.Core.List.{List, [], _∷_, _++_, map}
 use lib.IntN.{pos, negsuc}
 use Rattle.sums.specs.Sums.{first, stop}
 use Rattle.sums.specs.Lists.{listTo}
-use Rattle.hour.specs.Answer.{Lent}
+use Rattle.hour.specs.Answer.{Lent, lent}
 use Rattle.sheet.specs.declared.Counts.{Counts}
 use Rattle.text.specs.Faults.{faultNumber, earlier}
 use Rattle.text.specs.Fields.{allDigits, worth, parsedAs, parsed, owedAs, owedIn}
@@ -15,7 +15,6 @@ use Rattle.text.specs.declared.Fault.{Fault}
 use Rattle.stating.specs.Rows.{asks, rowsFor, rowsAhead, rowNumber, rowFault, statementFault, withMark, markRow, markLine}
 use Rattle.stating.specs.Rows.{unmarked, markedIn, lastFault, figuresLine, moneyLine, secondLine, priceLine, priceIn}
 use Rattle.stating.specs.Read.{listsFit, statementAfter, statementOf, statedIn}
-use Rattle.stating.specs.Steps.{fourLists}
 use Rattle.stating.specs.declared.Statement.{Statement}
 
 abbrev counted : (agents plants contracts : ℕ) → Counts
@@ -24,7 +23,7 @@ counted a p k = record { agents = a; boundaries = 2; plants = p; contracts = k }
 -- a cell more than the agent's figures need
 abbrev before : Lent
 before =
-    fourLists (90 ∷ 91 ∷ 92 ∷ 93 ∷ 94 ∷ 95 ∷ 96 ∷ []) (pos 97 ∷ []) (98 ∷ []) (99 ∷ [])
+    lent (90 ∷ 91 ∷ 92 ∷ 93 ∷ 94 ∷ 95 ∷ 96 ∷ []) (pos 97 ∷ []) (98 ∷ []) (99 ∷ [])
 
 -- `price 5`, `agent 0 1 2 3 4 5 6 7`, `plant 0 8` and `contract 0 9`, each with its line end
 abbrev aPrice : List ℕ
@@ -126,7 +125,7 @@ answers = refl
 
 -- the numbers of both that are right, which are the same
 abbrev after : Lent
-after = fourLists (1 ∷ 2 ∷ 3 ∷ 4 ∷ 5 ∷ 6 ∷ 96 ∷ []) (negsuc 6 ∷ []) (8 ∷ []) (9 ∷ [])
+after = lent (1 ∷ 2 ∷ 3 ∷ 4 ∷ 5 ∷ 6 ∷ 96 ∷ []) (negsuc 6 ∷ []) (8 ∷ []) (9 ∷ [])
 
 numbers-read : statedIn ours before ∷ statedIn another before ∷ [] ≡ after ∷ after ∷ []
 unfolding faultNumber allDigits worth parsedAs parsed owedAs owedIn cut over same wordOf named numbered owing step readLine

@@ -7,13 +7,13 @@ use lib.IntN.{ℤ}
 use lib.ListN.{length, take, drop, set, drop-of-length-le}
 use lib.Seq.{sets}
 use Rattle.sums.specs.Lists.{at}
-use Rattle.hour.specs.Answer.{Lent}
+use Rattle.hour.specs.Answer.{Lent, lent}
 use Rattle.text.specs.Lines.{newline, cut, lines, over, readLine}
 use Rattle.text.specs.Stretches.{from}
 use Rattle.text.proofs.Lines as walk
 use Rattle.stating.specs.Rows.{figuresLine, moneyLine, secondLine, priceLine, priceIn}
 use Rattle.stating.specs.Read.{statedIn}
-use Rattle.stating.specs.Steps.{fourLists, withLine}
+use Rattle.stating.specs.Steps.{withLine}
 
 -- ---- the numbers of an agent, one after the other
 pub one-more : (out a : List ℕ) (k i : ℕ) → i + 1 < length a
@@ -28,13 +28,13 @@ none-left out a k i h = ap (sets out (k + i)) (drop-of-length-le a h)
 
 -- ---- four lists by their parts
 pub listed-is : {f f′ : List ℕ} {m m′ : List ℤ} {s s′ : List ℕ} {a a′ : List ℕ} → f ≡ f′ → m ≡ m′ → s ≡ s′ → a ≡ a′
-    → fourLists f m s a ≡ fourLists f′ m′ s′ a′
-listed-is p q r t = λ i. fourLists (p i) (q i) (r i) (t i)
+    → lent f m s a ≡ lent f′ m′ s′ a′
+listed-is p q r t = λ i. lent (p i) (q i) (r i) (t i)
 
 -- what the lines from byte i on make of them
 abbrev pub onward : (text : List ℕ) → ℕ → Lent → Lent
 onward text i l =
-    fourLists (over figuresLine (l .figures) (from newline text i)) (over moneyLine (l .money) (from newline text i))
+    lent (over figuresLine (l .figures) (from newline text i)) (over moneyLine (l .money) (from newline text i))
     (over (secondLine 3) (l .schedule) (from newline text i)) (over (secondLine 4) (l .amounts) (from newline text i))
 
 module _ (text : List ℕ) (l : Lent) where

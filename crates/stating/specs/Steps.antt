@@ -2,7 +2,6 @@
 use Prim.Native.Nat.{ℕ, _≤_}
 use mathlib.Core.Path.{_≡_}
 use mathlib.Core.List.{List}
-use lib.IntN.{ℤ}
 use lib.ListN.{length}
 use Rattle.hour.specs.Answer.{Lent}
 use Rattle.sheet.specs.declared.Counts.{Counts}
@@ -19,11 +18,7 @@ pub record MarksFit (c : Counts) (marks : List ℕ) : Type 0 where
   pub long : length marks ≡ allRows c
   pub few : allRows c ≤ 385
 
--- the four lists
-abbrev pub fourLists : List ℕ → List ℤ → List ℕ → List ℕ → Lent
-fourLists figures money schedule amounts = record { figures = figures; money = money; schedule = schedule; amounts = amounts }
-
--- and with the numbers of a line
+-- the four lists with the numbers of a line
 abbrev pub withLine : Line → Lent → Lent
 withLine l b =
     record {

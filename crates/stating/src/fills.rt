@@ -10,7 +10,8 @@ ghost use Rattle.sums.specs.Lists.{at};
 ghost use Rattle.hour.specs.Lines.{cellsPerAgent};
 ghost use Rattle.stating.specs.Rows.{figuresFrom, moneyFrom, secondFrom, priceIn};
 ghost use Rattle.stating.specs.Read.{statedIn};
-ghost use Rattle.stating.specs.Steps.{fourLists, withLine};
+ghost use Rattle.hour.specs.Answer.{lent};
+ghost use Rattle.stating.specs.Steps.{withLine};
 use text::Line;
 
 fn put(out: &mut [u32], k: usize, v: u32)
@@ -83,8 +84,8 @@ fn put_line(
     schedule: &mut [u32],
     amounts: &mut [u32],
 )
-    ensures { λ _. ⌜ fourLists (now (figures .exit)) (now (money .exit)) (now (schedule .exit)) (now (amounts .exit))
-        ≡ withLine l (fourLists (now (figures .entry)) (now (money .entry)) (now (schedule .entry)) (now (amounts .entry))) ⌝ }
+    ensures { λ _. ⌜ lent (now (figures .exit)) (now (money .exit)) (now (schedule .exit)) (now (amounts .exit))
+        ≡ withLine l (lent (now (figures .entry)) (now (money .entry)) (now (schedule .entry)) (now (amounts .entry))) ⌝ }
 {
     put_figures(figures, l);
     put_money(money, l);
@@ -99,8 +100,8 @@ pub(crate) fn fill(
     schedule: &mut [u32],
     amounts: &mut [u32],
 ) -> u32
-    ensures { λ r. ⌜ (fourLists (now (figures .exit)) (now (money .exit)) (now (schedule .exit)) (now (amounts .exit))
-        ≡ statedIn (now (s .entry)) (fourLists (now (figures .entry)) (now (money .entry)) (now (schedule .entry)) (now (amounts .entry))))
+    ensures { λ r. ⌜ (lent (now (figures .exit)) (now (money .exit)) (now (schedule .exit)) (now (amounts .exit))
+        ≡ statedIn (now (s .entry)) (lent (now (figures .entry)) (now (money .entry)) (now (schedule .entry)) (now (amounts .entry))))
         × (r ≡ priceIn (now (s .entry))) ⌝ }
 {
     let mut price: u32 = 0;

@@ -5,7 +5,7 @@ mod marks;
 ghost use mathlib.Core.Path.{_≡_};
 ghost use Prim.Native.Nat.{_<_};
 ghost use Rattle.stating.specs.Read.{listsFit, StatementInto};
-ghost use Rattle.stating.specs.Steps.{fourLists};
+ghost use Rattle.hour.specs.Answer.{lent};
 use sheet::Counts;
 use text::Fault;
 
@@ -30,7 +30,7 @@ fn index(n: u32) -> usize
 // The counts are within a sheet's limits, and the lists have room.
 fn lists_fit(c: Counts, figures: &[u32], money: &[i64], schedule: &[u32], amounts: &[u32]) -> bool
     ensures { λ r. ⌜ r ≡ listsFit c
-        (fourLists (now (figures .entry)) (now (money .entry)) (now (schedule .entry)) (now (amounts .entry))) ⌝ }
+        (lent (now (figures .entry)) (now (money .entry)) (now (schedule .entry)) (now (amounts .entry))) ⌝ }
 {
     if !rows::few(c.agents, c.boundaries, c.plants, c.contracts) {
         return false;
@@ -52,8 +52,8 @@ pub fn read(
     amounts: &mut [u32],
 ) -> Statement
     ensures { λ r. ⌜ StatementInto (now (text .entry)) c
-        (fourLists (now (figures .entry)) (now (money .entry)) (now (schedule .entry)) (now (amounts .entry))) r
-        (fourLists (now (figures .exit)) (now (money .exit)) (now (schedule .exit)) (now (amounts .exit))) ⌝ }
+        (lent (now (figures .entry)) (now (money .entry)) (now (schedule .entry)) (now (amounts .entry))) r
+        (lent (now (figures .exit)) (now (money .exit)) (now (schedule .exit)) (now (amounts .exit))) ⌝ }
 {
     if !lists_fit(c, figures, money, schedule, amounts) {
         return Statement::Wrong(0, Fault::Rows);

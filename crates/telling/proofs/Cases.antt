@@ -4,8 +4,7 @@ use mathlib.Core.List.{List, [], _∷_, map}
 use mathlib.Core.Path.{_≡_, refl}
 use lib.IntN.{ℤ, pos, negsuc}
 use Rattle.sheet.specs.declared.Counts.{Counts}
-use Rattle.hour.specs.Answer.{Lent}
-use Rattle.settle.specs.Settled.{lent}
+use Rattle.hour.specs.Answer.{Lent, lent}
 use Rattle.printing.specs.Text.{spell, minus, signed, linesTo}
 use Rattle.text.specs.Written.{joined, rowText}
 use Rattle.telling.specs.Text.{agentLine, statementText}

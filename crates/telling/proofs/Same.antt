@@ -7,8 +7,7 @@ use lib.IntN.{ℤ}
 use Rattle.sums.specs.Lists.{at}
 use Rattle.sheet.specs.declared.Counts.{Counts}
 use Rattle.hour.specs.Lines.{cellsPerAgent}
-use Rattle.hour.specs.Answer.{Lent, moneyIn, scheduleIn, amountIn}
-use Rattle.settle.specs.Settled.{lent}
+use Rattle.hour.specs.Answer.{Lent, lent, moneyIn, scheduleIn, amountIn}
 use Rattle.printing.specs.Text.{linesTo}
 use Rattle.text.specs.Lines.{plantWord, contractWord, priceWord}
 use Rattle.text.specs.Written.{rowText}

@@ -21,11 +21,11 @@ use Rattle.sheet.specs.declared.Reading.{Reading}
 use Rattle.sheet.proofs.Accepted.{Few, accepted-few, accepted-counts}
 use Rattle.hour.specs.Sheet.{agents, plants, contracts}
 use Rattle.hour.specs.Lines.{figure, money, scheduled, amount}
-use Rattle.hour.specs.Answer.{Lent, roomVerdict, summaryOf}
+use Rattle.hour.specs.Answer.{Lent, lent, roomVerdict, summaryOf}
 use Rattle.hour.specs.declared.Summary.{Summary}
 use Rattle.columns.specs.Columns.{hourOf, sheetVerdict}
 use Rattle.columns.proofs.Columns.{agents-long, plants-long, contracts-long}
-use Rattle.settle.specs.Settled.{lent, verdictOf, Settled}
+use Rattle.settle.specs.Settled.{verdictOf, Settled}
 use Rattle.printing.specs.Page.{Prints}
 use Rattle.printing.specs.declared.Printed.{Printed}
 use Rattle.printing.proofs.Printing.{one-outcome as printed-once}

@@ -10,8 +10,7 @@ use Rattle.sheet.specs.Reading.{countsOf}
 use Rattle.columns.specs.Columns.{hourOf, sheetVerdict}
 use Rattle.hour.specs.Sheet.{Sheet, agents, plants, contracts}
 use Rattle.hour.specs.Lines.{cellsPerAgent, figure, money, scheduled, amount, bolsaPrice}
-use Rattle.hour.specs.Answer.{Lent}
-use Rattle.settle.specs.Settled.{lent}
+use Rattle.hour.specs.Answer.{Lent, lent}
 use Rattle.telling.specs.Text.{statementText}
 
 -- the four lists of a settled hour, with a cell for each row and no more

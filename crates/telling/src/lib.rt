@@ -9,7 +9,7 @@ ghost use lib.ListN.{length, drop};
 ghost use Rattle.refusals.specs.Refusals.{noRoom, refusedUnless};
 ghost use Rattle.sheet.specs.Reading.{readOf};
 ghost use Rattle.sheet.specs.declared.Reading.{Reading as Reading·answer};
-ghost use Rattle.settle.specs.Settled.{lent};
+ghost use Rattle.hour.specs.Answer.{lent};
 ghost use Rattle.printing.specs.Page.{Prints};
 ghost use Rattle.telling.specs.Text.{listsServe, statementText, StatementWritten};
 ghost use Rattle.telling.specs.Tell.{ownStatement, tellVerdict};

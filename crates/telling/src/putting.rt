@@ -3,7 +3,7 @@ ghost use Prim.Native.Nat.{_+_, _*_, _≤_, _<_};
 ghost use mathlib.Core.List.{[], _∷_};
 ghost use lib.ListN.{length, drop, getD};
 ghost use Rattle.rows.specs.Limits.{mostAgents, mostContracts};
-ghost use Rattle.settle.specs.Settled.{lent};
+ghost use Rattle.hour.specs.Answer.{lent};
 ghost use Rattle.printing.specs.Put.{PutInRoom};
 ghost use Rattle.printing.specs.Text.{linesTo};
 ghost use Rattle.text.specs.Written.{rowText};

@@ -8,10 +8,9 @@ use Rattle.sheet.proofs.Accepted.{accepted-few}
 use Rattle.columns.specs.Columns.{columnsOf}
 use Rattle.columns.proofs.Columns.{agents-long}
 use Rattle.hour.specs.Sheet.{Sheet}
-use Rattle.hour.specs.Answer.{Lent, hourVerdict}
+use Rattle.hour.specs.Answer.{Lent, lent, hourVerdict}
 use Rattle.balance.specs.Balances.{zeros, Ledger, ledger}
 use Rattle.ground.proofs.Admitted.{Open, opened}
-use Rattle.checking.specs.Check.{stated}
 use Rattle.checking.proofs.Refusing.{turned, points-left, weighs}
 use Rattle.checking.proofs.check_read.Statement.{statement}
 use Rattle.checking.proofs.check_read.Tie as tie
@@ -39,7 +38,7 @@ abbrev injected3-to-injected : tie.After-injected3 → tie.After-injected
 injected3-to-injected c = c .before .before .before .before .before .before
 
 abbrev lists : tie.Start → Lent
-lists c = let a = c .args in stated (a .figures .now) (a .money .now) (a .schedule .now) (a .amounts .now)
+lists c = let a = c .args in lent (a .figures .now) (a .money .now) (a .schedule .now) (a .amounts .now)
 
 abbrev sheet : tie.Start → Sheet
 sheet c = columnsOf (c .args .bytes .now) (c .args .c)

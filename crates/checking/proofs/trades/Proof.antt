@@ -13,9 +13,8 @@ use Rattle.columns.specs.Columns.{columnsOf}
 use Rattle.columns.proofs.Columns.{agents-long, plants-long, contracts-long, sound}
 use Rattle.hour.specs.Sheet.{Sheet, agents}
 use Rattle.hour.specs.Sound.{Sound}
-use Rattle.hour.specs.Answer.{Lent}
+use Rattle.hour.specs.Answer.{Lent, lent}
 use Rattle.checking.specs.Passes.{room}
-use Rattle.checking.specs.Check.{stated}
 use mathlib.Core.Bool.{true}
 use borrow.Author.Tests.{eq-eqb, ne-eqb, not-true, not-false}
 use Rattle.hour.specs.Balance.{dispatchDemandBy}
@@ -185,7 +184,7 @@ abbrev sheet : tie.Start → Sheet
 sheet c = columnsOf (c .args .bytes .now) (c .args .c)
 
 abbrev lists : tie.Start → Lent
-lists c = let a = c .args in stated (a .figures .now) (a .money .now) (a .schedule .now) (a .amounts .now)
+lists c = let a = c .args in lent (a .figures .now) (a .money .now) (a .schedule .now) (a .amounts .now)
 
 ok : (c : tie.Start) → Sound (sheet c)
 ok c = sound _ _ (c .pre .0)

@@ -5,8 +5,7 @@ use mathlib.Core.List.{List}
 use Prim.Native.Nat.{ℕ}
 use borrow.Author.Needs.{needs}
 use Rattle.refusals.specs.declared.Verdict.{Verdict}
-use Rattle.hour.specs.Answer.{Lent}
-use Rattle.settle.specs.Settled.{lent}
+use Rattle.hour.specs.Answer.{Lent, lent}
 use Rattle.day.specs.Day.{dayVerdict}
 use Rattle.day.proofs.Hours.{fits-of, day-done, day-refused}
 use Rattle.day.proofs.settle_day.Statement.{statement}

@@ -6,7 +6,7 @@ use borrow.Author.Needs.{needs}
 use lib.ListN.{length, take, drop, length-replicate}
 use Rattle.sums.specs.Lists.{at}
 use Rattle.sums.proofs.Sums.{sum-none, sum-step, sum-front}
-use Rattle.settle.specs.Settled.{lent}
+use Rattle.hour.specs.Answer.{lent}
 use Rattle.day.specs.Day.{hours, startOf, noSummary}
 use Rattle.day.specs.Steps.{HoursDone}
 use Rattle.day.proofs.Hours.{hours-none, has-part, hours-next}

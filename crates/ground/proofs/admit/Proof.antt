@@ -4,7 +4,7 @@ use mathlib.Core.Path.{_≡_, _∙_, sym}
 use Rattle.sheet.proofs.Accepted.{accepted-few}
 use Rattle.columns.specs.Columns.{columnsOf}
 use Rattle.hour.specs.Sheet.{Sheet}
-use Rattle.hour.specs.Answer.{Lent, hourVerdict}
+use Rattle.hour.specs.Answer.{Lent, lent, hourVerdict}
 use Rattle.ground.proofs.Admitted.{refused-weighing, verdict-is, fine-weighing, late-weighing}
 use Rattle.ground.proofs.admit.Statement.{statement}
 use Rattle.ground.proofs.admit.Tie as tie
@@ -28,10 +28,10 @@ late-to-weigh c = late-to-told c .before .before
 abbrev late-to-start : tie.After-late → tie.Start
 late-to-start c = weigh-to-start (late-to-weigh c)
 
-abbrev lent : tie.Start → Lent
-lent c =
+abbrev lists : tie.Start → Lent
+lists c =
     let a = c .args in
-    record { figures = a .figures .now; money = a .money .now; schedule = a .schedule .now; amounts = a .amounts .now }
+    lent (a .figures .now) (a .money .now) (a .schedule .now) (a .amounts .now)
 
 abbrev sheet : tie.Start → Sheet
 sheet c = columnsOf (c .args .bytes .now) (c .args .c)
@@ -39,29 +39,29 @@ sheet c = columnsOf (c .args .bytes .now) (c .args .c)
 has-room-requires : tie.Need-has-room-requires
 has-room-requires c κs = accepted-few _ _ (offered-to-start c .pre) .agents
 
-verdict : (c : tie.After-late) → c .late .result ≡ hourVerdict (sheet (late-to-start c)) (lent (late-to-start c))
+verdict : (c : tie.After-late) → c .late .result ≡ hourVerdict (sheet (late-to-start c)) (lists (late-to-start c))
 verdict c =
     let at-room = c .before in
     let at-offered = at-room .before in
     c .late .ensures
-    ∙ verdict-is _ _ (lent (late-to-start c)) _ _ _ (late-to-weigh c .weigh-read .ensures) (late-to-told c .enum-told .given .1) _ _ _
+    ∙ verdict-is _ _ (lists (late-to-start c)) _ _ _ (late-to-weigh c .weigh-read .ensures) (late-to-told c .enum-told .given .1) _ _ _
     (at-offered .offered .ensures .0) (at-offered .offered .ensures .1) (at-room .has-room .ensures)
 
 returns : tie.Need-returns
 returns c =
     let at-weigh = c .before .before in
-    refused-weighing _ _ (lent (weigh-to-start at-weigh)) _ _ _ (at-weigh .weigh-read .ensures) _ (c .enum-told2 .given .1)
+    refused-weighing _ _ (lists (weigh-to-start at-weigh)) _ _ _ (at-weigh .weigh-read .ensures) _ (c .enum-told2 .given .1)
 
 returns-2 : tie.Need-returns-2
 returns-2 c =
     let at-late = c .before .before .before in
     rw (c .turned-away .ensures)
-    (late-weighing _ _ (lent (late-to-start at-late)) _ _ _ _ (verdict at-late) ((c .before) .enum-told4 .given .1))
+    (late-weighing _ _ (lists (late-to-start at-late)) _ _ _ _ (verdict at-late) ((c .before) .enum-told4 .given .1))
 
 returns-3 : tie.Need-returns-3
 returns-3 c =
     let at-late = c .before .before in
-    fine-weighing _ _ (lent (late-to-start at-late)) _ _ _ (late-to-weigh at-late .weigh-read .ensures)
+    fine-weighing _ _ (lists (late-to-start at-late)) _ _ _ (late-to-weigh at-late .weigh-read .ensures)
     (late-to-told at-late .enum-told .given .1) (sym (verdict at-late) ∙ c .enum-told3 .given .1)
 
 pub admit-spec : {M : Type 1} → statement M

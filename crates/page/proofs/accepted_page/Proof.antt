@@ -10,7 +10,7 @@ use lib.Seq.{length-take-le}
 use Rattle.rows.specs.Limits.{mostAgents, mostPlants, mostContracts}
 use Rattle.sheet.proofs.Accepted.{Few, accepted-few, accepted-counts}
 use Rattle.columns.proofs.Refusing.{room-for}
-use Rattle.settle.specs.Settled.{lent}
+use Rattle.hour.specs.Answer.{lent}
 use Rattle.page.proofs.Paged.{print-fine, settled-page}
 use Rattle.page.proofs.accepted_page.Statement.{statement}
 use Rattle.page.proofs.accepted_page.Tie as tie

@@ -6,7 +6,7 @@ use lib.IntN.{pos}
 use lib.ListN.{replicate}
 use Rattle.rows.specs.Limits.{mostAgents}
 use Rattle.hour.specs.Lines.{cellsPerAgent}
-use Rattle.settle.specs.Settled.{lent}
+use Rattle.hour.specs.Answer.{lent}
 use Rattle.reasons.proofs.Asked.{settled-hour}
 use Rattle.reasons.proofs.settle_hour.Statement.{statement}
 use Rattle.reasons.proofs.settle_hour.Tie as tie

@@ -4,8 +4,8 @@ use mathlib.Core.List.{List}
 use mathlib.Core.Path.{_≡_, _∙_, sym}
 use Rattle.sheet.specs.Reading.{readOf}
 use Rattle.sheet.specs.declared.Reading.{Reading}
-use Rattle.hour.specs.Answer.{Lent}
-use Rattle.settle.specs.Settled.{lent, verdictOf}
+use Rattle.hour.specs.Answer.{Lent, lent}
+use Rattle.settle.specs.Settled.{verdictOf}
 use Rattle.settle.proofs.Judged.{refused-read, turned-away}
 use Rattle.settle.proofs.settle.Statement.{statement}
 use Rattle.settle.proofs.settle.Tie as tie

@@ -16,14 +16,13 @@ use Rattle.hour.specs.Sheet.{Sheet, agents}
 use Rattle.hour.specs.Sound.{Sound}
 use Rattle.hour.specs.Balance.{lossShare, commercial, ownImport}
 use Rattle.hour.specs.Lines.{own, contracted}
-use Rattle.hour.specs.Answer.{Lent, hourVerdict}
+use Rattle.hour.specs.Answer.{Lent, lent, hourVerdict}
 use Rattle.hour.proofs.Bounds.{price-le}
 use Rattle.hour.proofs.Verdicts.{balanced}
 use Rattle.lines.specs.Lines.{buys}
 use Rattle.lines.proofs.Sheets.{figures-are, money-are, lines-fit}
 use Rattle.balance.specs.Balances.{zeros, Ledger, ledger}
 use Rattle.ground.proofs.Admitted.{Open, opened}
-use Rattle.settle.specs.Settled.{lent}
 use Rattle.settle.proofs.Judged.{demands-are, settled-read, turned-away}
 use Rattle.settle.proofs.settle_read.Statement.{statement}
 use Rattle.settle.proofs.settle_read.Tie as tie

@@ -5,9 +5,8 @@ use mathlib.Core.List.{List}
 use borrow.Author.Needs.{needs}
 use borrow.Author.Tests.{not-true, not-false}
 use denote.Ref.{now}
-use Rattle.hour.specs.Answer.{Lent}
+use Rattle.hour.specs.Answer.{Lent, lent}
 use Rattle.stating.specs.Read.{listsFit}
-use Rattle.stating.specs.Steps.{fourLists}
 use Rattle.stating.proofs.Reading.{counts-good, not-fit, wrong-line, all-read}
 use Rattle.stating.proofs.read.Statement.{statement}
 use Rattle.stating.proofs.read.Tie as tie
@@ -29,7 +28,7 @@ fill-to-else2 c = c .before .before .before .before .before
 abbrev lent : tie.After-lists-fit → Lent
 lent c =
     let a = fit-to-start c .args in
-    fourLists (now (a .figures)) (now (a .money)) (now (a .schedule)) (now (a .amounts))
+    lent (now (a .figures)) (now (a .money)) (now (a .schedule)) (now (a .amounts))
 
 abbrev typed : tie.After-lists-fit → List ℕ
 typed c = now (fit-to-start c .args .text)

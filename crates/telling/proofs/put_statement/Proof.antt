@@ -7,7 +7,7 @@ use borrow.Author.Needs.{needs}
 use denote.Ref.{now}
 use lib.ListN.{length}
 use lib.Seq.{drop-length}
-use Rattle.settle.specs.Settled.{lent}
+use Rattle.hour.specs.Answer.{lent}
 use Rattle.printing.specs.Text.{linesTo}
 use Rattle.text.specs.Lines.{priceWord}
 use Rattle.text.specs.Written.{rowText}

@@ -7,7 +7,7 @@ use borrow.Author.Needs.{needs}
 use borrow.Author.Tests.{not-true, not-false}
 use denote.Ref.{now}
 use lib.ListN.{length}
-use Rattle.settle.specs.Settled.{lent}
+use Rattle.hour.specs.Answer.{lent}
 use Rattle.telling.specs.Text.{listsServe, statementText}
 use Rattle.telling.proofs.Serving.{enough, badly-served, given}
 use Rattle.telling.proofs.write.Statement.{statement}

@@ -13,7 +13,8 @@ use Rattle.text.specs.declared.Line.{Line}
 use Rattle.text.proofs.Lines as walk
 use Rattle.stating.specs.Rows.{priceLine, priceIn}
 use Rattle.stating.specs.Read.{statedIn}
-use Rattle.stating.specs.Steps.{fourLists, withLine}
+use Rattle.hour.specs.Answer.{lent}
+use Rattle.stating.specs.Steps.{withLine}
 use Rattle.stating.proofs.Filling as laws
 use Rattle.stating.proofs.fills.fill.Statement.{statement}
 use Rattle.stating.proofs.fills.fill.Tie as tie
@@ -22,7 +23,7 @@ abbrev Inv-loop : tie.InvT-loop
 Inv-loop s figures₀ money₀ schedule₀ amounts₀ price₀ i₀ figures money schedule amounts price i =
     (i ≤ length s + 1) × (length figures ≡ length figures₀) × (length money ≡ length money₀)
     × (length schedule ≡ length schedule₀) × (length amounts ≡ length amounts₀)
-    × (statedIn s (fourLists figures₀ money₀ schedule₀ amounts₀) ≡ laws.onward s i (fourLists figures money schedule amounts))
+    × (statedIn s (lent figures₀ money₀ schedule₀ amounts₀) ≡ laws.onward s i (lent figures money schedule amounts))
     × (priceIn s ≡ over priceLine price (from newline s i))
 
 abbrev μ-loop : tie.MeasureT-loop
@@ -38,7 +39,7 @@ loop-holds c =
       refl,
       refl,
       refl,
-      laws.onward-start s (fourLists (now (a .figures)) (now (a .money)) (now (a .schedule)) (now (a .amounts))),
+      laws.onward-start s (lent (now (a .figures)) (now (a .money)) (now (a .schedule)) (now (a .amounts))),
       walk.over-start priceLine 0 newline s,
     )
 
@@ -52,7 +53,7 @@ loop-again c =
     let l = e .before .before in
     let b = l .loop in
     let s = now (l .before .before .before .before .before .args .s) in
-    let had = fourLists (b .figures) (b .money) (b .schedule) (b .amounts) in
+    let had = lent (b .figures) (b .money) (b .schedule) (b .amounts) in
     let k = p .put-line .kept in (
       omega arith,
       k .1 .0 ∙ b .inv .1,
@@ -75,7 +76,7 @@ returns c =
     let l = c .before in
     let b = l .loop in
     let s = now (l .before .before .before .before .before .args .s) in (
-      sym (b .inv .5 ∙ laws.onward-end s (fourLists (b .figures) (b .money) (b .schedule) (b .amounts)) (b .i) (omega arith)),
+      sym (b .inv .5 ∙ laws.onward-end s (lent (b .figures) (b .money) (b .schedule) (b .amounts)) (b .i) (omega arith)),
       sym (b .inv .6 ∙ walk.over-end priceLine (b .price) newline s (b .i) (omega arith)),
     )
 

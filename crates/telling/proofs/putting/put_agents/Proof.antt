@@ -5,7 +5,7 @@ use native.Mathlib.Omega.{arith}
 use borrow.Author.Needs.{needs}
 use denote.Ref.{now}
 use lib.ListN.{length, drop}
-use Rattle.settle.specs.Settled.{lent}
+use Rattle.hour.specs.Answer.{lent}
 use Rattle.telling.specs.Text.{agentLine}
 use Rattle.telling.proofs.Going.{Going, going-more, going-done}
 use Rattle.telling.proofs.putting.put_agents.Statement.{statement}
