@@ -12,7 +12,7 @@ use Rattle.sums.proofs.Fill.{filled-count, filled-by, filled-front}
 use Rattle.refusals.specs.declared.Verdict.{Verdict}
 use Rattle.share.specs.Share.{shareOf, Shared}
 use Rattle.share.proofs.Laws.{share-fine}
-use Rattle.rows.specs.Limits.{mostAgents}
+use Rattle.limits.specs.Limits.{mostAgents}
 use Rattle.sums.proofs.Sums.{sum-eq, sum-add}
 use Rattle.sums.proofs.First.{first-eq}
 use Rattle.rows.specs.Rows.{carriesLosses, isOutside}

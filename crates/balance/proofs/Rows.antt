@@ -7,11 +7,11 @@ use mathlib.Core.Path.{_≡_, ap, ap₂, _∙_, sym}
 use Rattle.sums.specs.Sums.{keyed}
 use Rattle.sums.specs.Lists.{at}
 use Rattle.sums.proofs.Keyed.{keyed-eq, keyed-most}
-use Rattle.rows.specs.Limits.{mostAgents, mostFactor, mostReading}
+use Rattle.limits.specs.Limits.{mostAgents, mostFactor, mostReading}
 use Rattle.octets.specs.Bytes.{wordsAt}
 use Rattle.rows.specs.Rows.{agentOf, boundaryOf}
 use Rattle.octets.specs.declared.Words.{Words}
-use Rattle.rows.specs.declared.Boundary.{Boundary}
+use Rattle.limits.specs.declared.Boundary.{Boundary}
 use Rattle.sheet.specs.Reading.{readOf}
 use Rattle.sheet.specs.Asking.{boundaryAt, sectionOf}
 use Rattle.sheet.specs.declared.Reading.{Reading}

@@ -3,7 +3,7 @@ use Prim.Native.Nat.{ℕ, _+_}
 use mathlib.Core.List.{List}
 use mathlib.Core.Path.{_≡_}
 use lib.ListN.{replicate}
-use Rattle.rows.specs.Limits.{mostAgents}
+use Rattle.limits.specs.Limits.{mostAgents}
 use Rattle.sums.specs.Lists.{at, Filled}
 use Rattle.refusals.specs.Refusals.{orElse, cells}
 use Rattle.refusals.specs.declared.Verdict.{Verdict}

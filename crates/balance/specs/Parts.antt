@@ -6,7 +6,7 @@ use mathlib.Core.Path.{_≡_}
 use lib.Dec.{ltb, leb, eqb}
 use Rattle.refusals.specs.Refusals.{badExports, badGain, unshared, refusedUnless, firstOf}
 use Rattle.refusals.specs.declared.Verdict.{Verdict}
-use Rattle.rows.specs.Limits.{mostAgents, mostBoundaries, mostReading, mostFactor}
+use Rattle.limits.specs.Limits.{mostAgents, mostBoundaries, mostReading, mostFactor}
 use Rattle.sums.specs.Lists.{at, Filled}
 use Rattle.hour.specs.Sheet.{Sheet}
 use Rattle.hour.specs.Balance.{imported, exported, consumption, ownImport, delivered}

@@ -1,8 +1,8 @@
 // From readings to commercial demand: what each agent took and delivered, what was lost on the way, and who carries it.
+use limits::Agent;
+use limits::Boundary;
 use refusals::Refusal;
 use refusals::Verdict;
-use rows::Agent;
-use rows::Boundary;
 use sheet::Counts;
 use sheet::Reading;
 ghost use mathlib.Core.Path.{_≡_};
@@ -13,7 +13,7 @@ ghost use lib.ListN.{length, take, set};
 ghost use Rattle.sums.specs.Sums.{sum, pick, first};
 ghost use Rattle.sums.specs.Lists.{at, Filled};
 ghost use Rattle.refusals.specs.Refusals.{cells};
-ghost use Rattle.rows.specs.Limits.{mostAgents, mostFactor, mostReading};
+ghost use Rattle.limits.specs.Limits.{mostAgents, mostFactor, mostReading};
 ghost use Rattle.rows.specs.Rows.{carriesLosses, isOutside};
 ghost use Rattle.sheet.specs.Reading.{readOf};
 ghost use Rattle.sheet.specs.declared.Reading.{Reading};

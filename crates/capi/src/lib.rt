@@ -14,8 +14,8 @@ ghost use Rattle.capi.specs.Told.{ShareTold, ReadTold, WriteTold, Settle
 pub mod texts;
 pub mod whole_day;
 pub mod why;
-ghost use Rattle.hour.specs.Answer.{lent};
 
+ghost use Rattle.hour.specs.Answer.{lent};
 use printing::Printed;
 use refusals::Refusal;
 use refusals::Verdict;

@@ -10,7 +10,7 @@ use Rattle.sums.specs.Sums.{pick, keyed}
 use Rattle.sums.specs.Lists.{at}
 use Rattle.sums.proofs.Sums.{peak-eq}
 use Rattle.sums.proofs.Picks.{pick-both}
-use Rattle.rows.specs.Limits.{mostAgents}
+use Rattle.limits.specs.Limits.{mostAgents}
 use Rattle.sheet.specs.Reading.{readOf}
 use Rattle.sheet.specs.declared.Counts.{Counts}
 use Rattle.sheet.specs.declared.Reading.{Reading}

@@ -13,7 +13,7 @@ use Rattle.sums.proofs.Sums.{sum-eq, sum-add}
 use Rattle.sums.proofs.Lists.{zeros-at}
 use Rattle.sums.proofs.Cut.{cut}
 use Rattle.sums.proofs.Fill.{filled-front}
-use Rattle.rows.specs.Limits.{mostAgents, mostOffer}
+use Rattle.limits.specs.Limits.{mostAgents, mostOffer}
 use Rattle.refusals.specs.Refusals.{badShares, badSchedule, badPrice, badAmounts, badLines, refused}
 use Rattle.refusals.specs.declared.Verdict.{Verdict}
 use Rattle.merit.proofs.Price.{price-most}

@@ -8,7 +8,7 @@ use lib.IntN.{ℤ, pos}
 use lib.ListN.{length, getD}
 use Rattle.sums.specs.Sums.{sum, peak, pick, keyed}
 use Rattle.sums.specs.Lists.{at}
-use Rattle.rows.specs.Limits.{mostAgents, mostContracts}
+use Rattle.limits.specs.Limits.{mostAgents, mostContracts}
 use Rattle.rows.specs.Rows.{carriesLosses}
 use Rattle.merit.specs.Merit.{hourPrice}
 use Rattle.refusals.specs.Refusals.{badSchedule, badPrice, badAmounts, badLines, refusedUnless, firstOf}

@@ -1,9 +1,9 @@
 // Point 25: the agents' lines.
-use rows::Agent;
+use limits::Agent;
 ghost use mathlib.Core.Path.{_≡_};
 ghost use Prim.Native.Nat.{_*_, _≤_};
 ghost use lib.ListN.{length};
-ghost use Rattle.rows.specs.Limits.{mostAgents, mostOffer};
+ghost use Rattle.limits.specs.Limits.{mostAgents, mostOffer};
 ghost use Rattle.hour.specs.Lines.{cellsPerAgent};
 ghost use Rattle.statement.specs.Decide.{every};
 ghost use Rattle.statement.specs.Tests.{sameMoney};

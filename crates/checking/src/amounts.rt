@@ -1,7 +1,7 @@
 // Point 24: their contract amounts.
 use crate::passes;
 use crate::tally;
-use rows::Contract;
+use limits::Contract;
 use sheet::Counts;
 ghost use mathlib.Core.Path.{_≡_};
 ghost use Prim.Native.Nat.{_≤_};

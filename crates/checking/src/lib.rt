@@ -1,8 +1,8 @@
 // Whether an administrator's statement of an hour is accepted: a sheet, a price and four lists go in, a verdict comes out, and nothing
 // is changed.
+use limits::Agent;
 use refusals::Refusal;
 use refusals::Verdict;
-use rows::Agent;
 use sheet::Counts;
 use sheet::Reading;
 
@@ -16,7 +16,7 @@ mod tally;
 
 ghost use mathlib.Core.Path.{_≡_};
 ghost use lib.ListN.{length};
-ghost use Rattle.rows.specs.Limits.{mostAgents};
+ghost use Rattle.limits.specs.Limits.{mostAgents};
 ghost use Rattle.sheet.specs.Reading.{readOf};
 ghost use Rattle.sheet.specs.declared.Reading.{Reading};
 ghost use Rattle.columns.specs.Columns.{columnsOf};

@@ -1,8 +1,8 @@
 // Whether the amounts stated for all contracts follow document 01, for some order of equal prices: three passes over the rows with one
 // account an agent, and one over the agents. No order is made.
 use crate::numbers;
-use rows::Agent;
-use rows::Contract;
+use limits::Agent;
+use limits::Contract;
 ghost use mathlib.Core.Path.{_≡_};
 ghost use mathlib.Core.Bool.{cond, _&&_};
 ghost use Prim.Native.Nat.{_+_, _-_, _≤_, _<_, max};
@@ -10,7 +10,7 @@ ghost use lib.ListN.{length};
 ghost use lib.Dec.{ltb, leb, eqb};
 ghost use Rattle.sums.specs.Sums.{pick};
 ghost use Rattle.sums.specs.Lists.{at};
-ghost use Rattle.rows.specs.Limits.{mostAgents};
+ghost use Rattle.limits.specs.Limits.{mostAgents};
 ghost use Rattle.deals.specs.Deals.{conditional, demanded};
 ghost use Rattle.statement.specs.Decide.{every, isNear};
 ghost use Rattle.statement.specs.Quick.{shapeGood, groupGood};

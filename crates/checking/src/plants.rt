@@ -1,13 +1,13 @@
 // Points 22 and 23: their schedule, and the price that it gives.
 use crate::passes;
 use crate::tally;
-use rows::Plant;
+use limits::Plant;
 use sheet::Counts;
 ghost use mathlib.Core.Path.{_≡_};
 ghost use Prim.Native.Nat.{_≤_};
 ghost use lib.ListN.{length};
 ghost use Rattle.sums.specs.Lists.{at};
-ghost use Rattle.rows.specs.Limits.{mostPlants};
+ghost use Rattle.limits.specs.Limits.{mostPlants};
 ghost use Rattle.sheet.specs.Reading.{readOf};
 ghost use Rattle.sheet.specs.declared.Reading.{Reading};
 ghost use Rattle.columns.specs.Columns.{columnsOf};

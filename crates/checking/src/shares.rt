@@ -1,12 +1,12 @@
 // Point 21: their loss shares, and the demands with them.
 use crate::numbers;
-use rows::Agent;
+use limits::Agent;
 ghost use mathlib.Core.Path.{_≡_};
 ghost use Prim.Native.Nat.{ℕ, _+_, _-_, _*_, _≤_, _<_};
 ghost use lib.ListN.{length};
 ghost use Rattle.sums.specs.Sums.{sum};
 ghost use Rattle.sums.specs.Lists.{at, Filled};
-ghost use Rattle.rows.specs.Limits.{mostAgents};
+ghost use Rattle.limits.specs.Limits.{mostAgents};
 ghost use Rattle.rows.specs.Rows.{carriesLosses};
 ghost use Rattle.hour.specs.Lines.{cellsPerAgent};
 ghost use Rattle.statement.specs.Tests.{shareTest};

@@ -8,7 +8,7 @@ use lib.ListN.{length}
 use Rattle.refusals.specs.Refusals.{orElse, numberOf}
 use Rattle.refusals.specs.declared.Refusal.{Refusal}
 use Rattle.refusals.specs.declared.Verdict.{Verdict}
-use Rattle.rows.specs.Limits.{mostAgents, mostPlants, mostContracts}
+use Rattle.limits.specs.Limits.{mostAgents, mostPlants, mostContracts}
 use Rattle.sheet.specs.Reading.{countsOf, readVerdict, readOf}
 use Rattle.sheet.specs.declared.Counts.{Counts}
 use Rattle.sheet.specs.declared.Reading.{Reading}

@@ -12,7 +12,7 @@ use Rattle.sums.specs.Lists.{at}
 use Rattle.sums.proofs.Sums.{sum-zero, sum-term}
 use Rattle.sums.proofs.Cut.{sum-few}
 use Rattle.sums.proofs.Picks.{pick-le, pick-lt, pick-ge, pick-zero}
-use Rattle.rows.specs.Limits.{mostContracts}
+use Rattle.limits.specs.Limits.{mostContracts}
 use Rattle.deals.specs.Deals.{Deals, count, kind, fixed, demanded}
 use Rattle.deals.specs.Hour.{Rows, ownOf, ownCount}
 use Rattle.deals.proofs.Own.{count-own, own-rows}

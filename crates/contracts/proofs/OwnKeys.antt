@@ -9,7 +9,7 @@ use mathlib.Core.Path.{_≡_, ap, _∙_, sym}
 use lib.Dec.{ltb, eqb}
 use lib.ListN.{length}
 use borrow.Author.Tests.{lt-ltb, le-ltb, eq-eqb, ne-eqb, eqb-true}
-use Rattle.rows.specs.Limits.{mostPrice}
+use Rattle.limits.specs.Limits.{mostPrice}
 use Rattle.sums.specs.Sums.{sum, pick}
 use Rattle.sums.specs.Lists.{at}
 use Rattle.sums.proofs.Sums.{sum-eq}

@@ -18,8 +18,8 @@ use Rattle.sums.proofs.Sums.{sum-eq, sum-le, sum-add, sum-term}
 use Rattle.sums.proofs.Picks.{pick-le, pick-eq, pick-ne, pick-lt, pick-ge, pick-both, pick-true, pick-false, pick-zero}
 use Rattle.sums.proofs.Keyed.{keyed-none, keyed-most, keyed-put}
 use Rattle.sums.proofs.Tests.{clash, and-both}
-use Rattle.rows.specs.Limits.{mostAgents, mostContracts, mostQuantity}
-use Rattle.rows.specs.declared.Contract.{Contract}
+use Rattle.limits.specs.Limits.{mostAgents, mostContracts, mostQuantity}
+use Rattle.limits.specs.declared.Contract.{Contract}
 use Rattle.share.specs.Share.{shareOf}
 use Rattle.share.proofs.Laws.{share-no-amount}
 use Rattle.deals.specs.Deals.{Deals, count, kind, price, quantity, fixed, conditional}

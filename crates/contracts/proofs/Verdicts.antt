@@ -15,8 +15,8 @@ use Rattle.refusals.proofs.FirstBad.{good-row, bad-row}
 use Rattle.refusals.specs.Refusals.{refusal, refused, refusedUnless, firstBad, orElse, cells, badLayout, badContract, noRoom}
 use Rattle.refusals.specs.declared.Refusal.{Refusal}
 use Rattle.refusals.specs.declared.Verdict.{Verdict}
-use Rattle.rows.specs.Limits.{mostAgents, mostContracts, mostQuantity, mostPrice}
-use Rattle.rows.specs.declared.Contract.{Contract}
+use Rattle.limits.specs.Limits.{mostAgents, mostContracts, mostQuantity, mostPrice}
+use Rattle.limits.specs.declared.Contract.{Contract}
 use Rattle.deals.specs.Deals.{fixed, demanded}
 use Rattle.deals.specs.Hour.{hourAmount}
 use Rattle.contracts.specs.Assign.{countIn, dealIn, dealsIn, sectionFits, dealGood, dealVerdict}

@@ -9,10 +9,10 @@ use lib.Dec.{ltb, leb, eqb}
 use Rattle.sums.specs.Lists.{listTo, Filled}
 use Rattle.refusals.specs.Refusals.{badLayout, badContract, noRoom, refusedUnless, firstOf, firstBad, cells}
 use Rattle.refusals.specs.declared.Verdict.{Verdict}
-use Rattle.rows.specs.Limits.{mostAgents, mostContracts, mostPrice, mostQuantity}
+use Rattle.limits.specs.Limits.{mostAgents, mostContracts, mostPrice, mostQuantity}
 use Rattle.octets.specs.Bytes.{wordsAt}
 use Rattle.rows.specs.Rows.{contractOf}
-use Rattle.rows.specs.declared.Contract.{Contract}
+use Rattle.limits.specs.declared.Contract.{Contract}
 use Rattle.deals.specs.Deals.{fixed, demanded}
 use Rattle.deals.specs.Hour.{Rows, hourAmount}
 

@@ -1,8 +1,8 @@
 // The contracts of an hour: what each of them is assigned.
+use limits::Agent;
+use limits::Contract;
 use refusals::Refusal;
 use refusals::Verdict;
-use rows::Agent;
-use rows::Contract;
 
 mod sides;
 mod walk;
@@ -14,7 +14,7 @@ ghost use lib.ListN.{length};
 ghost use Rattle.sums.specs.Sums.{pick};
 ghost use Rattle.sums.specs.Lists.{at, Filled};
 ghost use Rattle.refusals.specs.Refusals.{refusedUnless, orElse, noRoom};
-ghost use Rattle.rows.specs.Limits.{mostContracts};
+ghost use Rattle.limits.specs.Limits.{mostContracts};
 ghost use Rattle.contracts.specs.Assign.{countIn, dealIn, dealsIn, sectionFits, assignVerdict, Assigned};
 ghost use Rattle.contracts.specs.Keys.{rowSpan, dealKey, keyIn, keyRow, Ready};
 ghost use Rattle.contracts.specs.Sides.{AddedUp, Numbered, SidesTotalled, Cuts, isCut, FrontKeys, Picked, Cut, AllAssigned};

@@ -6,7 +6,7 @@ ghost use lib.Dec.{ltb, eqb};
 ghost use lib.ListN.{length};
 ghost use Rattle.sums.specs.Sums.{pick};
 ghost use Rattle.sums.specs.Lists.{at, total, Filled};
-ghost use Rattle.rows.specs.Limits.{mostContracts};
+ghost use Rattle.limits.specs.Limits.{mostContracts};
 ghost use Rattle.share.specs.Share.{shareOf};
 ghost use Rattle.contracts.specs.Keys.{keyBuyer, isDemanded, isFixed};
 ghost use Rattle.contracts.specs.Walk.{Stretch, groupAmount, Served, WalkFrom, Walked};

@@ -12,7 +12,7 @@ use Rattle.sums.specs.Lists.{at}
 pub use Rattle.sums.specs.Hours.{hours}
 use Rattle.refusals.specs.Refusals.{badLength, noRoom, refusedUnless, firstOf, cells}
 use Rattle.refusals.specs.declared.Verdict.{Verdict}
-use Rattle.rows.specs.Limits.{mostAgents, mostPlants, mostContracts}
+use Rattle.limits.specs.Limits.{mostAgents, mostPlants, mostContracts}
 use Rattle.columns.specs.Columns.{hourOf}
 use Rattle.hour.specs.Lines.{cellsPerAgent}
 use Rattle.hour.specs.Answer.{Lent, lent, summaryOf}

@@ -1,10 +1,10 @@
 // A day at one go: 24 sheets, one behind another, each settled into its own part of the four lent lists.
 use hour::Summary;
+use limits::Agent;
+use limits::Contract;
+use limits::Plant;
 use refusals::Refusal;
 use refusals::Verdict;
-use rows::Agent;
-use rows::Contract;
-use rows::Plant;
 ghost use mathlib.Core.Path.{_≡_};
 ghost use Prim.Native.Nat.{_+_, _*_, _≤_};
 ghost use mathlib.Core.List.{[], _∷_};

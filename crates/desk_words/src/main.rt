@@ -46,11 +46,13 @@ fn show(i: usize) {
 // The command that the words from `first` up to, not including, `end` are.
 fn run_command(first: usize, end: usize) {
     say_heading(first, end);
-    if is_word(first, b"show") {
-        show(first + 1);
-    } else {
-        console::run_words(first, end);
+    if first < end {
+        if is_word(first, b"show") {
+            show(first + 1);
+            return;
+        }
     }
+    console::run_words(first, end);
 }
 
 fn main() {

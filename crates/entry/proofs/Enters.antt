@@ -10,7 +10,7 @@ use borrow.Author.Tests.{lt-ltb, le-leb}
 use Rattle.sums.specs.Sums.{sum, pick}
 use Rattle.sums.proofs.Sums.{sum-le, sum-add, sum-most}
 use Rattle.refusals.specs.declared.Verdict.{Verdict}
-use Rattle.rows.specs.Limits.{mostQuantity}
+use Rattle.limits.specs.Limits.{mostQuantity}
 use Rattle.sheet.specs.Reading.{countsOf, readVerdict, readOf}
 use Rattle.hour.specs.Sheet.{Sheet, agents, contracts, retails}
 use Rattle.hour.specs.Sound.{Sound}

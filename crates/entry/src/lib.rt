@@ -2,7 +2,7 @@
 ghost use mathlib.Core.Path.{_≡_};
 ghost use Prim.Native.Nat.{_≤_, min};
 ghost use Rattle.sums.specs.Lists.{at};
-ghost use Rattle.rows.specs.Limits.{mostAgents};
+ghost use Rattle.limits.specs.Limits.{mostAgents};
 ghost use Rattle.sheet.specs.Counting.{countingOf};
 ghost use Rattle.entry.specs.Entry.{agentsCounted, boughtInAll, mostWord, entryOf};
 use book::Place;

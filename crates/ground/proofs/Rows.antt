@@ -10,10 +10,10 @@ use Rattle.sums.specs.Lists.{at, Filled}
 use Rattle.sums.proofs.Sums.{sum-eq}
 use Rattle.sums.proofs.Lists.{listTo-is}
 use Rattle.sums.proofs.Fill.{filled-front, filled-by}
-use Rattle.rows.specs.Limits.{mostAvailable}
+use Rattle.limits.specs.Limits.{mostAvailable}
 use Rattle.octets.specs.Bytes.{wordsAt}
 use Rattle.rows.specs.Rows.{plantOf}
-use Rattle.rows.specs.declared.Plant.{Plant}
+use Rattle.limits.specs.declared.Plant.{Plant}
 use Rattle.sheet.specs.Reading.{readOf}
 use Rattle.sheet.specs.Asking.{plantAt, sectionOf}
 use Rattle.sheet.specs.declared.Counts.{Counts}

@@ -1,15 +1,15 @@
 // What settling and checking both stand on: whether the hour of a sheet is to be settled at all, and its plants by their columns.
 use balance::Weight;
+use limits::Agent;
 use refusals::Refusal;
 use refusals::Verdict;
-use rows::Agent;
 use sheet::Counts;
 
 pub mod plants;
 
 ghost use mathlib.Core.Path.{_≡_};
 ghost use Prim.Native.Nat.{_≤_};
-ghost use Rattle.rows.specs.Limits.{mostAgents};
+ghost use Rattle.limits.specs.Limits.{mostAgents};
 ghost use Rattle.refusals.specs.declared.Verdict.{Verdict};
 ghost use Rattle.sheet.specs.Reading.{readOf};
 ghost use Rattle.sheet.specs.declared.Reading.{Reading};

@@ -1,5 +1,5 @@
 // The plants of an accepted sheet: what they offer and must run together, and their rows by their columns.
-use rows::Plant;
+use limits::Plant;
 use sheet::Counts;
 ghost use mathlib.Core.Path.{_≡_};
 ghost use Rattle.sums.specs.Sums.{sum};

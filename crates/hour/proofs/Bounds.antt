@@ -4,7 +4,7 @@ use native.Mathlib.Omega.{arith}
 use native.Mathlib.Nat.{mul-le-mul}
 use mathlib.Core.Path.{_≡_}
 use mathlib.Core.Bool.{Bool, true, false, not}
-use Rattle.rows.specs.Limits.{mostAgents, mostBoundaries, mostPlants, mostFactor, mostReading, mostOffer, mostAvailable}
+use Rattle.limits.specs.Limits.{mostAgents, mostBoundaries, mostPlants, mostFactor, mostReading, mostOffer, mostAvailable}
 use Rattle.sums.specs.Sums.{sum, pick, keyed}
 use Rattle.sums.specs.Lists.{at}
 use Rattle.sums.proofs.Sums.{sum-le, sum-add, sum-mul, sum-most}

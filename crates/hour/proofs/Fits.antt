@@ -2,7 +2,7 @@
 use Prim.Native.Nat.{ℕ, _+_, _*_, _≤_, _<_}
 use native.Mathlib.Omega.{arith}
 use mathlib.Core.Bool.{Bool, true, false, cond}
-use Rattle.rows.specs.Limits.{mostContracts, mostQuantity}
+use Rattle.limits.specs.Limits.{mostContracts, mostQuantity}
 use Rattle.sums.specs.Sums.{keyed}
 use Rattle.sums.specs.Lists.{at}
 use Rattle.sums.proofs.Keyed.{keyed-most}

@@ -8,7 +8,7 @@ use borrow.Author.Tests.{lt-ltb, le-ltb}
 use lib.IntN.{ℤ, pos, negsuc, negℤ, _+ℤ_, _-ℤ_, _*ℤ_, +ℤ-assoc, +ℤ-comm, negℤ-+ℤ}
 use mir.Syntax.{w64}
 use mir.Val.{SFits}
-use Rattle.rows.specs.Limits.{mostOffer}
+use Rattle.limits.specs.Limits.{mostOffer}
 use Rattle.sums.specs.Sums.{sum}
 use Rattle.hour.specs.Signed.{signedSum}
 use Rattle.hour.specs.Lines.{moneyOf}

@@ -4,8 +4,8 @@ use mathlib.Core.Bool.{true, false}
 use mathlib.Core.Path.{_≡_}
 use lib.ListN.{length}
 use Rattle.sums.specs.Lists.{at}
-use Rattle.rows.specs.Limits.{mostAgents, mostBoundaries, mostPlants, mostContracts, mostFactor}
-use Rattle.rows.specs.Limits.{mostReading, mostOffer, mostAvailable, mostPrice, mostQuantity}
+use Rattle.limits.specs.Limits.{mostAgents, mostBoundaries, mostPlants, mostContracts, mostFactor}
+use Rattle.limits.specs.Limits.{mostReading, mostOffer, mostAvailable, mostPrice, mostQuantity}
 use Rattle.hour.specs.Sheet.{Sheet, agents, boundaries, plants, contracts, retails, outside}
 
 -- the counts are within their limits

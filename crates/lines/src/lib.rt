@@ -1,13 +1,13 @@
 // An agent's line: what it buys, sells and is owed, from its kind, its own energy, its own import and what it holds under contract; and
 // its figures and its money, written.
-use rows::Agent;
-use rows::Plant;
+use limits::Agent;
+use limits::Plant;
 ghost use mathlib.Core.Path.{_≡_};
 ghost use Prim.Native.Nat.{ℕ, _+_, _*_, _≤_, _<_, min};
 ghost use lib.IntN.{pos};
 ghost use lib.ListN.{length};
 ghost use Rattle.sums.specs.Lists.{at, Filled};
-ghost use Rattle.rows.specs.Limits.{mostAgents, mostOffer};
+ghost use Rattle.limits.specs.Limits.{mostAgents, mostOffer};
 ghost use Rattle.hour.specs.Lines.{moneyOf, cellsPerAgent};
 ghost use Rattle.lines.specs.Lines.{buys, sells, lineSet, lineCell, lineMoney};
 

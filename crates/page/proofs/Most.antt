@@ -12,7 +12,7 @@ use Rattle.sums.specs.Lists.{at, listTo}
 use Rattle.sums.proofs.Lists.{getD-listTo}
 use Rattle.refusals.specs.declared.Verdict.{Verdict}
 use Rattle.refusals.proofs.Fine.{fine-parts}
-use Rattle.rows.specs.Limits.{mostOffer}
+use Rattle.limits.specs.Limits.{mostOffer}
 use Rattle.sheet.specs.Reading.{readVerdict, countsOf, readOf}
 use Rattle.sheet.specs.Asking.{agentAt}
 use Rattle.sheet.specs.declared.Reading.{Reading}

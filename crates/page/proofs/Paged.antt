@@ -13,7 +13,7 @@ use Rattle.sums.proofs.Fill.{filled-front}
 use Rattle.refusals.specs.Refusals.{noRoom, refusedUnless, numberOf}
 use Rattle.refusals.specs.declared.Refusal.{Refusal}
 use Rattle.refusals.specs.declared.Verdict.{Verdict}
-use Rattle.rows.specs.Limits.{mostAgents}
+use Rattle.limits.specs.Limits.{mostAgents}
 use Rattle.sheet.specs.Reading.{readVerdict, countsOf, readOf, reading}
 use Rattle.sheet.specs.Asking.{agentAt}
 use Rattle.sheet.specs.declared.Counts.{Counts}

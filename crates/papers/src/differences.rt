@@ -1,13 +1,13 @@
 // Where a statement differs from our own settlement: a line a cell.
 ghost use Prim.Native.Nat.{_≤_, _<_};
 ghost use lib.ListN.{length};
-ghost use Rattle.rows.specs.Limits.{mostAgents};
+ghost use Rattle.limits.specs.Limits.{mostAgents};
 use channels::say;
 use channels::say_number;
 use channels::say_signed;
-use rows::Agent;
-use rows::Contract;
-use rows::Plant;
+use limits::Agent;
+use limits::Contract;
+use limits::Plant;
 use sums::wide;
 
 fn say_pair(ours: u32, theirs: u32) -> bool {

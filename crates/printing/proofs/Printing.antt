@@ -13,7 +13,7 @@ use Rattle.sums.proofs.Tests.{all-true}
 use Rattle.sums.proofs.Fill.{filled-none, filled-unique}
 use Rattle.refusals.specs.Refusals.{badLayout, noRoom, refusal}
 use Rattle.refusals.specs.declared.Verdict.{Verdict}
-use Rattle.rows.specs.Limits.{mostAgents}
+use Rattle.limits.specs.Limits.{mostAgents}
 use Rattle.printing.specs.Page.{printVerdict, Prints}
 use Rattle.printing.specs.Put.{Listed}
 use Rattle.printing.specs.declared.Printed.{Printed}

@@ -10,7 +10,7 @@ use Rattle.sums.specs.Lists.{at, Filled}
 use Rattle.refusals.specs.Refusals.{badLayout, noRoom, refusedUnless, firstOf, cells}
 use Rattle.refusals.specs.declared.Refusal.{Refusal}
 use Rattle.refusals.specs.declared.Verdict.{Verdict}
-use Rattle.rows.specs.Limits.{mostAgents}
+use Rattle.limits.specs.Limits.{mostAgents}
 use Rattle.hour.specs.declared.Summary.{Summary}
 use Rattle.printing.specs.Text.{decimal, signed, spaced, linesTo}
 use Rattle.printing.specs.declared.Printed.{Printed}

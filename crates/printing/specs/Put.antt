@@ -6,7 +6,7 @@ use mathlib.Core.List.{List, [], _∷_, _++_}
 use lib.Dec.{eqb}
 use lib.ListN.{length, drop}
 use Rattle.sums.specs.Lists.{at, Filled}
-use Rattle.rows.specs.Limits.{mostAgents}
+use Rattle.limits.specs.Limits.{mostAgents}
 use Rattle.hour.specs.declared.Summary.{Summary}
 use Rattle.printing.specs.Text.{decimal, spaced}
 use Rattle.printing.specs.Page.{hourWord, refusedText}

@@ -10,13 +10,13 @@ ghost use lib.Dec.{leb};
 ghost use lib.IntN.{ℤ, pos, natAbs};
 ghost use lib.ListN.{length, drop, getD};
 ghost use Rattle.sums.specs.Lists.{at, Filled};
-ghost use Rattle.rows.specs.Limits.{mostAgents};
+ghost use Rattle.limits.specs.Limits.{mostAgents};
 ghost use Rattle.printing.specs.Text.{spell, decimal, minus, signed, spaced, linesTo};
 ghost use Rattle.printing.specs.Page.{lineOf, refusedText, pageOf, printVerdict, Prints};
 ghost use Rattle.printing.specs.Put.{Put, hourHead, headOf, linesIn, Listed, Appended};
 use hour::Summary;
+use limits::Agent;
 use refusals::Refusal;
-use rows::Agent;
 
 // What printing answers: how many bytes the page has, or why there is none.
 pub enum Printed {

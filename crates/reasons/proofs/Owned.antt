@@ -14,7 +14,7 @@ use Rattle.sums.specs.Lists.{at, total}
 use Rattle.sums.proofs.Sums.{sum-eq, sum-zero, sum-term}
 use Rattle.sums.proofs.Cut.{sum-few}
 use Rattle.sums.proofs.Picks.{pick-both, pick-same, pick-le, pick-lt, pick-ge, pick-zero}
-use Rattle.rows.specs.declared.Contract.{Contract}
+use Rattle.limits.specs.declared.Contract.{Contract}
 use Rattle.sheet.specs.Reading.{readOf}
 use Rattle.sheet.specs.Asking.{contractAt}
 use Rattle.sheet.specs.declared.Counts.{Counts}

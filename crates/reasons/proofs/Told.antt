@@ -7,8 +7,8 @@ use Rattle.sums.specs.Lists.{at}
 use Rattle.refusals.specs.Refusals.{notThere, refusal}
 use Rattle.refusals.specs.declared.Refusal.{Refusal}
 use Rattle.refusals.specs.declared.Verdict.{Verdict}
-use Rattle.rows.specs.declared.Plant.{Plant}
-use Rattle.rows.specs.declared.Contract.{Contract}
+use Rattle.limits.specs.declared.Plant.{Plant}
+use Rattle.limits.specs.declared.Contract.{Contract}
 use Rattle.refusals.proofs.Fine.{AllFine, fine-parts}
 use Rattle.sheet.specs.Reading.{readVerdict, readOf}
 use Rattle.sheet.specs.Asking.{plantAt, contractAt}

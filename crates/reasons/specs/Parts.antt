@@ -7,7 +7,7 @@ use lib.Dec.{ltb, eqb}
 use Rattle.sums.specs.Sums.{sum, pick}
 use Rattle.sums.specs.Lists.{Filled}
 use Rattle.refusals.specs.Refusals.{cells}
-use Rattle.rows.specs.declared.Contract.{Contract}
+use Rattle.limits.specs.declared.Contract.{Contract}
 use Rattle.sheet.specs.Asking.{contractAt}
 use Rattle.sheet.specs.declared.Counts.{Counts}
 use Rattle.deals.specs.Deals.{fixed, conditional, demanded, stands}

@@ -3,16 +3,16 @@
 ghost use mathlib.Core.Path.{_≡_};
 ghost use Prim.Native.Nat.{_≤_};
 ghost use lib.ListN.{length};
-ghost use Rattle.rows.specs.Limits.{mostPlants, mostContracts};
+ghost use Rattle.limits.specs.Limits.{mostPlants, mostContracts};
 ghost use Rattle.sheet.specs.Reading.{readOf};
 ghost use Rattle.sheet.specs.declared.Reading.{Reading};
 ghost use Rattle.reasons.specs.Reasons.{plantReasonNumber, contractReasonNumber, plantReasonBy, plantWhy, contractWhy};
 ghost use Rattle.reasons.specs.Parts.{HourSettled};
 use hour::Summary;
+use limits::Agent;
+use limits::Contract;
+use limits::Plant;
 use refusals::Refusal;
-use rows::Agent;
-use rows::Contract;
-use rows::Plant;
 use sheet::Counts;
 use sheet::Reading;
 

@@ -2,11 +2,11 @@
 use crate::Ahead;
 use crate::ContractReason;
 use crate::Group;
-use rows::Contract;
+use limits::Contract;
 use sheet::Counts;
 ghost use mathlib.Core.Path.{_≡_};
 ghost use Prim.Native.Nat.{_≤_, _<_};
-ghost use Rattle.rows.specs.Limits.{mostQuantity};
+ghost use Rattle.limits.specs.Limits.{mostQuantity};
 ghost use Rattle.deals.specs.Deals.{stands};
 ghost use Rattle.sheet.specs.Reading.{readOf};
 ghost use Rattle.sheet.specs.Asking.{contractAt};

@@ -6,14 +6,14 @@ use mathlib.Core.List.{[], _∷_}
 use lib.Dec.{leb, eqb}
 use borrow.Author.Tests.{leb-true, eqb-true}
 use Rattle.sums.proofs.Tests.{all-true, or-else}
-use Rattle.rows.specs.Limits.{mostFactor, mostReading, mostOffer, mostAvailable, mostPrice, mostQuantity}
+use Rattle.limits.specs.Limits.{mostFactor, mostReading, mostOffer, mostAvailable, mostPrice, mostQuantity}
 use Rattle.rows.specs.Rows.{isAgent, carriesLosses, isGenerator, maySell, mayBuy, holdsPlants}
 use Rattle.rows.specs.Rows.{agentBlank, boundaryBlank, boundaryGood, plantGood, contractGood}
 use Rattle.rows.proofs.ByKind.{metered}
 use Rattle.octets.specs.declared.Words.{Words}
-use Rattle.rows.specs.declared.Boundary.{Boundary}
-use Rattle.rows.specs.declared.Plant.{Plant}
-use Rattle.rows.specs.declared.Contract.{Contract}
+use Rattle.limits.specs.declared.Boundary.{Boundary}
+use Rattle.limits.specs.declared.Plant.{Plant}
+use Rattle.limits.specs.declared.Contract.{Contract}
 
 -- ---- unused bytes
 pub record AgentBlank (w : Words) : Type 0 where

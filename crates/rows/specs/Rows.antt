@@ -2,13 +2,12 @@
 use Prim.Native.Nat.{ℕ, _/_, _%_}
 use mathlib.Core.Bool.{Bool, _&&_, _||_, not}
 use lib.Dec.{leb, eqb}
-use Rattle.rows.specs.Limits.{mostAgents, mostBoundaries, mostPlants, mostContracts, mostFactor}
-use Rattle.rows.specs.Limits.{mostReading, mostOffer, mostAvailable, mostPrice, mostQuantity}
+use Rattle.limits.specs.Limits.{mostFactor, mostReading, mostOffer, mostAvailable, mostPrice, mostQuantity}
 use Rattle.octets.specs.declared.Words.{Words}
-use Rattle.rows.specs.declared.Agent.{Agent}
-use Rattle.rows.specs.declared.Boundary.{Boundary}
-use Rattle.rows.specs.declared.Plant.{Plant}
-use Rattle.rows.specs.declared.Contract.{Contract}
+use Rattle.limits.specs.declared.Agent.{Agent}
+use Rattle.limits.specs.declared.Boundary.{Boundary}
+use Rattle.limits.specs.declared.Plant.{Plant}
+use Rattle.limits.specs.declared.Contract.{Contract}
 
 -- two 16-bit numbers stand in one of 32 bits
 abbrev pub low : ℕ → ℕ
@@ -79,11 +78,6 @@ isOutside kind = isGenerator kind && not (holdsPlants kind)
 
 abbrev pub isAgent : ℕ → Bool
 isAgent kind = carriesLosses kind || isGenerator kind
-
--- ---- no section has more rows than its limit
-abbrev pub fewRows : (agents boundaries plants contracts : ℕ) → Bool
-fewRows agents boundaries plants contracts =
-    leb agents mostAgents && leb boundaries mostBoundaries && leb plants mostPlants && leb contracts mostContracts
 
 -- ---- what makes a row good. A row that names an agent is judged with that agent's kind, 0 where there is no such agent
 abbrev pub agentGood : Agent → Bool

@@ -12,9 +12,9 @@ use Rattle.sums.proofs.Lists.{length-listTo, listTo-eq, zeros-at}
 use Rattle.sums.proofs.Fill.{filled-count, filled-none, filled-by}
 use Rattle.refusals.specs.Refusals.{cells}
 use Rattle.refusals.specs.declared.Verdict.{Verdict}
-use Rattle.rows.specs.Limits.{mostAgents, mostQuantity}
+use Rattle.limits.specs.Limits.{mostAgents, mostQuantity}
 use Rattle.rows.specs.Rows.{contractOf}
-use Rattle.rows.specs.declared.Contract.{Contract}
+use Rattle.limits.specs.declared.Contract.{Contract}
 use Rattle.deals.specs.Hour.{Rows, hourAmount}
 use Rattle.contracts.specs.Assign.{countIn, dealIn, dealsIn, assignVerdict, Assigned}
 use Rattle.contracts.proofs.Verdicts.{Laid, Row, assign-fine}

@@ -9,7 +9,7 @@ use Rattle.sums.proofs.Fill.{filled-none, filled-count, filled-front, filled-un
 use Rattle.refusals.specs.Refusals.{cells}
 use Rattle.refusals.specs.declared.Refusal.{Refusal}
 use Rattle.refusals.specs.declared.Verdict.{Verdict}
-use Rattle.rows.specs.Limits.{mostAgents}
+use Rattle.limits.specs.Limits.{mostAgents}
 use Rattle.sheet.specs.Reading.{readOf, readVerdict, countsOf}
 use Rattle.sheet.specs.declared.Counts.{Counts}
 use Rattle.sheet.specs.declared.Reading.{Reading}

@@ -13,7 +13,7 @@ use Rattle.sums.proofs.Lists.{zeros-at, length-listTo, getD-listTo, listTo-eq}
 use Rattle.sums.proofs.Keyed.{keyed-eq}
 use Rattle.sums.proofs.Fill.{filled-by, filled-then, filled-front, front-at, front-long}
 use Rattle.refusals.specs.declared.Verdict.{Verdict}
-use Rattle.rows.specs.Limits.{mostAgents, mostPlants, mostAvailable}
+use Rattle.limits.specs.Limits.{mostAgents, mostPlants, mostAvailable}
 use Rattle.merit.specs.Merit.{schedule, idealDispatch, hourPrice}
 use Rattle.merit.proofs.Schedule.{schedule-eq}
 use Rattle.merit.proofs.MustRun.{sum-above}

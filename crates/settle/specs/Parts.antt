@@ -7,7 +7,7 @@ use Rattle.sums.specs.Sums.{sum, keyed}
 use Rattle.sums.specs.Lists.{at, listTo, Filled}
 use Rattle.refusals.specs.declared.Refusal.{Refusal}
 use Rattle.refusals.specs.declared.Verdict.{Verdict}
-use Rattle.rows.specs.Limits.{mostAgents, mostPlants, mostContracts, mostAvailable, mostQuantity}
+use Rattle.limits.specs.Limits.{mostAgents, mostPlants, mostContracts, mostAvailable, mostQuantity}
 use Rattle.balance.specs.Balances.{zeros, unscheduled}
 use Rattle.contracts.specs.Assign.{countIn, dealIn}
 use Rattle.hour.specs.Sheet.{Sheet, agents, plants, contracts}

@@ -1,5 +1,5 @@
 // The contracts of an accepted sheet: what each of them is assigned, and what it comes to by agent.
-use rows::Contract;
+use limits::Contract;
 use sheet::Counts;
 ghost use mathlib.Core.Path.{_≡_};
 ghost use lib.ListN.{length};

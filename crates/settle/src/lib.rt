@@ -1,9 +1,9 @@
 // One hour settled: a sheet and four lent lists go in; the summary comes back and the lists are filled, or a refusal and the
 // lists as they were. Everything is judged before anything is written.
 use hour::Summary;
+use limits::Agent;
 use refusals::Refusal;
 use refusals::Verdict;
-use rows::Agent;
 use sheet::Counts;
 use sheet::Reading;
 

@@ -1,13 +1,13 @@
 // The plants of an accepted sheet: their schedule, and what it comes to by agent.
 use crate::tally;
-use rows::Plant;
+use limits::Plant;
 use sheet::Counts;
 ghost use mathlib.Core.Path.{_≡_};
 ghost use Prim.Native.Nat.{ℕ, _+_, _-_, _≤_, _<_};
 ghost use lib.ListN.{length};
 ghost use Rattle.sums.specs.Sums.{sum};
 ghost use Rattle.sums.specs.Lists.{at, Filled};
-ghost use Rattle.rows.specs.Limits.{mostPlants};
+ghost use Rattle.limits.specs.Limits.{mostPlants};
 ghost use Rattle.sheet.specs.Reading.{readOf};
 ghost use Rattle.sheet.specs.declared.Reading.{Reading};
 ghost use Rattle.columns.specs.Columns.{columnsOf};

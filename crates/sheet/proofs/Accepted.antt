@@ -10,7 +10,7 @@ use lib.Dec.{leb, eqb}
 use borrow.Author.Tests.{leb-true, eqb-true, le-leb, eq-eqb, lt-ltb, le-ltb}
 use Rattle.refusals.specs.declared.Refusal.{Refusal}
 use Rattle.refusals.specs.declared.Verdict.{Verdict}
-use Rattle.rows.specs.Limits.{mostAgents, mostBoundaries, mostPlants, mostContracts}
+use Rattle.limits.specs.Limits.{mostAgents, mostBoundaries, mostPlants, mostContracts}
 use Rattle.octets.specs.Bytes.{wordsAt}
 use Rattle.rows.specs.Rows.{isAgent, agentBlank, boundaryBlank, agentGood, boundaryGood, plantGood, contractGood}
 use Rattle.sums.proofs.Tests.{and-left, and-right}

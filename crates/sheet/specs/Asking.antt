@@ -9,10 +9,10 @@ use Rattle.refusals.specs.Refusals.{notThere, refusedUnless, firstOf}
 use Rattle.refusals.specs.declared.Verdict.{Verdict}
 use Rattle.octets.specs.Bytes.{wordsAt}
 use Rattle.rows.specs.Rows.{agentOf, boundaryOf, plantOf, contractOf}
-use Rattle.rows.specs.declared.Agent.{Agent}
-use Rattle.rows.specs.declared.Boundary.{Boundary}
-use Rattle.rows.specs.declared.Plant.{Plant}
-use Rattle.rows.specs.declared.Contract.{Contract}
+use Rattle.limits.specs.declared.Agent.{Agent}
+use Rattle.limits.specs.declared.Boundary.{Boundary}
+use Rattle.limits.specs.declared.Plant.{Plant}
+use Rattle.limits.specs.declared.Contract.{Contract}
 use Rattle.sheet.specs.Reading.{boundaryStart, plantStart, contractStart}
 use Rattle.sheet.specs.declared.Counts.{Counts}
 use Rattle.sheet.specs.declared.Fields.{Fields}

@@ -7,10 +7,11 @@ use lib.ListN.{length}
 use lib.Dec.{leb, ltb, eqb}
 use Rattle.refusals.specs.Refusals.{badLength, badLayout, badAgent, badBoundary, badPlant, badContract, refusedUnless, firstOf, firstBad}
 use Rattle.refusals.specs.declared.Verdict.{Verdict}
-use Rattle.rows.specs.Limits.{mostAgents, mostBoundaries, mostPlants, mostContracts}
+use Rattle.limits.specs.Limits.{mostAgents, mostBoundaries, mostPlants, mostContracts}
 use Rattle.octets.specs.Bytes.{wordsAt}
 use Rattle.rows.specs.Rows.{agentOf, boundaryOf, plantOf, contractOf, agentBlank, boundaryBlank}
-use Rattle.rows.specs.Rows.{fewRows, agentGood, boundaryGood, plantGood, contractGood}
+use Rattle.limits.specs.Limits.{fewRows}
+use Rattle.rows.specs.Rows.{agentGood, boundaryGood, plantGood, contractGood}
 use Rattle.sheet.specs.declared.Counts.{Counts}
 use Rattle.sheet.specs.declared.Reading.{Reading}
 

@@ -7,13 +7,13 @@ ghost use Rattle.sheet.specs.Asking.{rowsIn, rowsBefore, sectionOf, agen
 ghost use Rattle.sheet.specs.Asking.{plantFields, contractFields, verdictIn, fieldsIn};
 ghost use Rattle.sheet.specs.Sections.{Addable, Placeable, kindIn, agentRowGood, boundaryRowGood, plantRowGood};
 ghost use Rattle.sheet.specs.Sections.{contractRowGood, sectionRowGood, toldIn, sectionVerdict, rowsVerdict, Laid};
+use limits::Agent;
+use limits::Boundary;
+use limits::Contract;
+use limits::Plant;
 use octets::Words;
 use refusals::Refusal;
 use refusals::Verdict;
-use rows::Agent;
-use rows::Boundary;
-use rows::Contract;
-use rows::Plant;
 
 pub mod asking;
 pub mod counting;
@@ -86,7 +86,7 @@ pub(crate) fn counts_of(s: &[u8]) -> Counts
 fn counts_good(c: Counts) -> bool
     ensures { λ r. ⌜ r ≡ countsGood c ⌝ }
 {
-    rows::few(c.agents, c.boundaries, c.plants, c.contracts)
+    limits::few(c.agents, c.boundaries, c.plants, c.contracts)
 }
 
 // Each distance is the one back from the trailer to the section's first byte.

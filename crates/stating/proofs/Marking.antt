@@ -14,7 +14,7 @@ use Rattle.sums.specs.Lists.{at, listTo}
 use Rattle.sums.proofs.First.{first-is, first-none}
 use Rattle.sums.proofs.Lists.{zeros-at, listTo-is}
 use Rattle.sums.proofs.Tests.{all-true}
-use Rattle.rows.specs.Limits.{mostAgents, mostBoundaries, mostPlants, mostContracts}
+use Rattle.limits.specs.Limits.{mostAgents, mostBoundaries, mostPlants, mostContracts}
 use Rattle.sheet.specs.Reading.{countsGood}
 use Rattle.sheet.specs.declared.Counts.{Counts}
 use Rattle.text.specs.Faults.{faultNumber, found, earlier}

@@ -32,7 +32,7 @@ fn lists_fit(c: Counts, figures: &[u32], money: &[i64], schedule: &[u32], amount
     ensures { λ r. ⌜ r ≡ listsFit c
         (lent (now (figures .entry)) (now (money .entry)) (now (schedule .entry)) (now (amounts .entry))) ⌝ }
 {
-    if !rows::few(c.agents, c.boundaries, c.plants, c.contracts) {
+    if !limits::few(c.agents, c.boundaries, c.plants, c.contracts) {
         return false;
     }
     (6 * c.agents <= figures.len())

@@ -10,9 +10,9 @@ ghost use Rattle.stating.specs.Rows.{Marked, byWord, asks, rowsFor, rows
 ghost use Rattle.stating.specs.Rows.{withMark, markRow, markLine, markedIn, complete, lastFault};
 ghost use Rattle.stating.specs.Steps.{seen, MarksFit};
 use super::Seen;
-use rows::Agent;
-use rows::Contract;
-use rows::Plant;
+use limits::Agent;
+use limits::Contract;
+use limits::Plant;
 use sheet::Counts;
 use text::Fault;
 use text::Line;

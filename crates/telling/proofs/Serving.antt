@@ -11,7 +11,7 @@ use Rattle.sums.proofs.Tests.{all-true, and-left, and-right}
 use Rattle.sums.proofs.Fill.{filled-none}
 use Rattle.refusals.specs.Refusals.{badLayout, noRoom, refusal, refusedUnless}
 use Rattle.refusals.proofs.Fine.{else-fine}
-use Rattle.rows.specs.Limits.{mostAgents, mostPlants, mostContracts}
+use Rattle.limits.specs.Limits.{mostAgents, mostPlants, mostContracts}
 use Rattle.sheet.specs.declared.Counts.{Counts}
 use Rattle.hour.specs.Lines.{cellsPerAgent}
 use Rattle.hour.specs.Answer.{Lent}

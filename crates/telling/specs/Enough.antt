@@ -1,6 +1,6 @@
 -- That the lists serve, as facts: no part of a statement's meaning. Assumes nothing.
 use Prim.Native.Nat.{ℕ, _*_, _≤_}
-use Rattle.rows.specs.Limits.{mostAgents, mostPlants, mostContracts}
+use Rattle.limits.specs.Limits.{mostAgents, mostPlants, mostContracts}
 use Rattle.sheet.specs.declared.Counts.{Counts}
 use Rattle.hour.specs.Lines.{cellsPerAgent}
 

@@ -7,7 +7,7 @@ use lib.ListN.{length}
 use lib.Dec.{leb}
 use Rattle.refusals.specs.Refusals.{badLayout, noRoom, refusedUnless, firstOf}
 use Rattle.refusals.specs.declared.Verdict.{Verdict}
-use Rattle.rows.specs.Limits.{mostAgents, mostPlants, mostContracts}
+use Rattle.limits.specs.Limits.{mostAgents, mostPlants, mostContracts}
 use Rattle.sheet.specs.declared.Counts.{Counts}
 use Rattle.hour.specs.Lines.{cellsPerAgent}
 use Rattle.hour.specs.Answer.{Lent, shareIn, ownIn, importIn, contractedIn, boughtIn, soldIn, moneyIn, scheduleIn, amountIn}

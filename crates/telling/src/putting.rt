@@ -2,14 +2,14 @@
 ghost use Prim.Native.Nat.{_+_, _*_, _≤_, _<_};
 ghost use mathlib.Core.List.{[], _∷_};
 ghost use lib.ListN.{length, drop, getD};
-ghost use Rattle.rows.specs.Limits.{mostAgents, mostContracts};
+ghost use Rattle.limits.specs.Limits.{mostAgents, mostContracts};
 ghost use Rattle.hour.specs.Answer.{lent};
 ghost use Rattle.printing.specs.Put.{PutInRoom};
 ghost use Rattle.printing.specs.Text.{linesTo};
 ghost use Rattle.text.specs.Written.{rowText};
 ghost use Rattle.telling.specs.Text.{agentLine};
+use limits::Agent;
 use printing::pen;
-use rows::Agent;
 use text::puts;
 
 // Agent a's line: its word has 5 bytes, each of seven numbers 21 with its space, its money 22, and the line end is one.

@@ -6,7 +6,7 @@ use mathlib.Core.List.{List, [], _∷_, _++_}
 use native.Mathlib.Omega.{arith}
 use lib.IntN.{natAbs}
 use Rattle.sums.specs.Lists.{at}
-use Rattle.rows.specs.Limits.{mostAgents, mostPlants, mostContracts}
+use Rattle.limits.specs.Limits.{mostAgents, mostPlants, mostContracts}
 use Rattle.sheet.specs.declared.Counts.{Counts}
 use Rattle.hour.specs.Answer.{Lent, moneyIn, scheduleIn, amountIn}
 use Rattle.printing.specs.Text.{signed, linesTo}

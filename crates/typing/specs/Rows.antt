@@ -7,7 +7,7 @@ use mathlib.Core.List.{List, [], _++_}
 use lib.ListN.{take}
 use lib.Dec.{leb, eqb}
 use Rattle.sums.specs.Sums.{pick}
-use Rattle.rows.specs.Limits.{mostAgents, mostBoundaries, mostPlants, mostContracts}
+use Rattle.limits.specs.Limits.{mostAgents, mostBoundaries, mostPlants, mostContracts}
 use Rattle.sheet.specs.Asking.{bySection}
 use Rattle.sheet.specs.declared.Counts.{Counts}
 use Rattle.text.specs.Faults.{found, earlier}

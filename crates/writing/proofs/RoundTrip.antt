@@ -12,10 +12,10 @@ use Rattle.refusals.specs.declared.Verdict.{Verdict}
 use Rattle.octets.specs.Bytes.{byteOf, bytesOf}
 use Rattle.octets.proofs.Trip.{Bytes}
 use Rattle.sheet.specs.Reading.{trailerStart, sheetLength, readOf}
-use Rattle.rows.specs.declared.Agent.{Agent}
-use Rattle.rows.specs.declared.Boundary.{Boundary}
-use Rattle.rows.specs.declared.Plant.{Plant}
-use Rattle.rows.specs.declared.Contract.{Contract}
+use Rattle.limits.specs.declared.Agent.{Agent}
+use Rattle.limits.specs.declared.Boundary.{Boundary}
+use Rattle.limits.specs.declared.Plant.{Plant}
+use Rattle.limits.specs.declared.Contract.{Contract}
 use Rattle.sheet.specs.Asking.{agentFields, boundaryFields, plantFields, contractFields, rowsIn, fieldsAt, rowIn}
 use Rattle.sheet.specs.declared.Counts.{Counts}
 use Rattle.sheet.specs.declared.RowRead.{RowRead}

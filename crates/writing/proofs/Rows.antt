@@ -5,10 +5,10 @@ use mathlib.Core.Path.{_≡_, refl, ap, sym, _∙_}
 use Rattle.octets.specs.Bytes.{wordsOf}
 use Rattle.rows.specs.Rows.{low, high, agentOf, boundaryOf, plantOf, contractOf}
 use Rattle.octets.specs.declared.Words.{Words}
-use Rattle.rows.specs.declared.Agent.{Agent}
-use Rattle.rows.specs.declared.Boundary.{Boundary}
-use Rattle.rows.specs.declared.Plant.{Plant}
-use Rattle.rows.specs.declared.Contract.{Contract}
+use Rattle.limits.specs.declared.Agent.{Agent}
+use Rattle.limits.specs.declared.Boundary.{Boundary}
+use Rattle.limits.specs.declared.Plant.{Plant}
+use Rattle.limits.specs.declared.Contract.{Contract}
 use Rattle.rows.proofs.Good.{AgentBlank}
 use Rattle.octets.proofs.Trip.{Narrow}
 use Rattle.writing.specs.Words.{halves, agentWords, boundaryWords, plantWords, contractWords}

@@ -8,10 +8,10 @@ use lib.ListN.{length, List·getD-eq-default}
 use Rattle.sums.specs.Lists.{at, listTo}
 use Rattle.sums.proofs.Lists.{length-listTo, getD-listTo, listTo-is}
 use Rattle.rows.specs.Rows.{boundaryGood, plantGood, contractGood}
-use Rattle.rows.specs.declared.Agent.{Agent}
-use Rattle.rows.specs.declared.Boundary.{Boundary}
-use Rattle.rows.specs.declared.Plant.{Plant}
-use Rattle.rows.specs.declared.Contract.{Contract}
+use Rattle.limits.specs.declared.Agent.{Agent}
+use Rattle.limits.specs.declared.Boundary.{Boundary}
+use Rattle.limits.specs.declared.Plant.{Plant}
+use Rattle.limits.specs.declared.Contract.{Contract}
 use Rattle.sheet.specs.Reading.{kindAt}
 use Rattle.sheet.specs.Asking.{agentAt, boundaryAt, plantAt, contractAt}
 use Rattle.sheet.specs.declared.Counts.{Counts}

@@ -6,10 +6,10 @@ use lib.Dec.{ltb, eqb}
 use Rattle.octets.specs.Bytes.{wordsOf, bytesOf}
 use Rattle.rows.specs.Rows.{low}
 use Rattle.octets.specs.declared.Words.{Words}
-use Rattle.rows.specs.declared.Agent.{Agent}
-use Rattle.rows.specs.declared.Boundary.{Boundary}
-use Rattle.rows.specs.declared.Plant.{Plant}
-use Rattle.rows.specs.declared.Contract.{Contract}
+use Rattle.limits.specs.declared.Agent.{Agent}
+use Rattle.limits.specs.declared.Boundary.{Boundary}
+use Rattle.limits.specs.declared.Plant.{Plant}
+use Rattle.limits.specs.declared.Contract.{Contract}
 use Rattle.sheet.specs.Reading.{boundaryStart, plantStart, contractStart, trailerStart}
 use Rattle.sheet.specs.declared.Counts.{Counts}
 use Rattle.writing.specs.Numbers.{Numbers, countsIn, agentIn, boundaryIn, plantIn, contractIn}

@@ -9,19 +9,19 @@ ghost use Rattle.writing.specs.Numbers.{numbers, countsIn};
 ghost use Rattle.writing.specs.Judged.{listsGood, agentListed, boundaryListed, plantListed};
 ghost use Rattle.writing.specs.Judged.{contractListed, rowListed, sectionListed, writeVerdict};
 use super::lists;
+use limits::Agent;
+use limits::Boundary;
+use limits::Contract;
+use limits::Plant;
 use refusals::Refusal;
 use refusals::Verdict;
-use rows::Agent;
-use rows::Boundary;
-use rows::Contract;
-use rows::Plant;
 
 // Refusal 2 is given where this is false.
 fn lists_good(agents: &[u32], boundaries: &[u32], plants: &[u32], contracts: &[u32]) -> bool
     ensures { λ r. ⌜ r ≡ listsGood
         (numbers (now (agents .entry)) (now (boundaries .entry)) (now (plants .entry)) (now (contracts .entry))) ⌝ }
 {
-    rows::few(
+    limits::few(
         agents.len(),
         boundaries.len() / 4,
         plants.len() / 5,

@@ -5,10 +5,10 @@ ghost use lib.ListN.{length};
 ghost use Rattle.sums.specs.Lists.{at};
 ghost use Rattle.sheet.specs.Reading.{trailerStart, sheetLength};
 ghost use Rattle.writing.specs.Numbers.{numbers, countsIn, agentIn, boundaryIn, plantIn, contractIn};
-use rows::Agent;
-use rows::Boundary;
-use rows::Contract;
-use rows::Plant;
+use limits::Agent;
+use limits::Boundary;
+use limits::Contract;
+use limits::Plant;
 use sheet::Counts;
 
 // How many rows each list has.

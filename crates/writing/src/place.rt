@@ -10,11 +10,11 @@ ghost use Rattle.writing.specs.Numbers.{numbers, countsIn};
 ghost use Rattle.writing.specs.Words.{halves, agentWords, boundaryWords, plantWords, contractWords, trailerWords, sheetRow};
 ghost use Rattle.writing.specs.Put.{putNumber, putRow};
 use super::lists;
+use limits::Agent;
+use limits::Boundary;
+use limits::Contract;
+use limits::Plant;
 use octets::Words;
-use rows::Agent;
-use rows::Boundary;
-use rows::Contract;
-use rows::Plant;
 use sheet::Counts;
 
 // Two 16-bit numbers in one.

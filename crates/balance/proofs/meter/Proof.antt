@@ -4,8 +4,8 @@ use Prim.Native.Nat.{ℕ, _+_, _*_, _≤_, _<_, _-_}
 use mathlib.Core.List.{List}
 use mathlib.Core.Path.{_≡_, _∙_, ap, sym}
 use lib.ListN.{length, set, length-set}
-use Rattle.rows.specs.Limits.{mostAgents}
-use Rattle.rows.specs.declared.Boundary.{Boundary}
+use Rattle.limits.specs.Limits.{mostAgents}
+use Rattle.limits.specs.declared.Boundary.{Boundary}
 use Rattle.sums.specs.Sums.{keyed}
 use Rattle.sums.specs.Lists.{at}
 use Rattle.sums.proofs.Lists.{zeros-at}

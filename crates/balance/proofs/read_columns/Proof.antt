@@ -4,7 +4,7 @@ use native.Mathlib.Omega.{arith}
 use Prim.Native.Nat.{ℕ, _≤_, _<_}
 use mathlib.Core.List.{List}
 use mathlib.Core.Path.{_≡_, _∙_, refl}
-use Rattle.rows.specs.Limits.{mostAgents}
+use Rattle.limits.specs.Limits.{mostAgents}
 use Rattle.sums.specs.Lists.{at}
 use Rattle.sums.proofs.Fill.{filled-by}
 use Rattle.sheet.proofs.Accepted.{accepted-few}

@@ -2,7 +2,7 @@ use borrow.Author.Needs.{needs}
 use native.Mathlib.Omega.{arith}
 use Prim.Native.Nat.{_≤_, _+_, _*_}
 use native.Mathlib.Nat.{mul-le-mul}
-use Rattle.rows.specs.Limits.{mostFactor, mostReading}
+use Rattle.limits.specs.Limits.{mostFactor, mostReading}
 use Rattle.hour.specs.Balance.{referred}
 use Rattle.balance.proofs.refer.Statement.{statement}
 use Rattle.balance.proofs.refer.Tie as tie

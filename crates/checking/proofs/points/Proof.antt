@@ -5,7 +5,7 @@ use mathlib.Core.Path.{_≡_, ap, _∙_, sym}
 use Rattle.sums.specs.Sums.{sum}
 use Rattle.sums.specs.Lists.{at}
 use Rattle.sums.proofs.Fill.{filled-count}
-use Rattle.rows.specs.Limits.{mostAgents}
+use Rattle.limits.specs.Limits.{mostAgents}
 use Rattle.sheet.proofs.Accepted.{accepted-few}
 use Rattle.columns.specs.Columns.{columnsOf}
 use Rattle.columns.proofs.Columns.{agents-long, sound}

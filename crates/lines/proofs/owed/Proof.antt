@@ -6,7 +6,7 @@ use lib.IntN.{pos, _-ℤ_, _*ℤ_}
 use mir.Syntax.{w64}
 use mir.Val.{toZ, ofZ}
 use mir.ValLaws.{toZ-ofZ, toZ-pos}
-use Rattle.rows.specs.Limits.{mostOffer}
+use Rattle.limits.specs.Limits.{mostOffer}
 use Rattle.hour.specs.Lines.{moneyOf}
 use Rattle.hour.proofs.Money.{diff-fits, money-fits}
 use Rattle.lines.proofs.owed.Statement.{statement}

@@ -8,7 +8,7 @@ use mir.Syntax.{w64}
 use mir.ValLaws.{toZ-ofZ}
 use Rattle.sums.specs.Lists.{Filled}
 use Rattle.sums.proofs.Fill.{filled-none, filled-more}
-use Rattle.rows.specs.Limits.{mostOffer}
+use Rattle.limits.specs.Limits.{mostOffer}
 use Rattle.hour.specs.Lines.{moneyOf, cellsPerAgent}
 use Rattle.lines.specs.Lines.{lineCell, lineMoney}
 use Rattle.lines.proofs.OneLine.{line-more}

@@ -7,7 +7,7 @@ use denote.Ref.{now}
 use lib.IntN.{pos}
 use lib.ListN.{length, take, replicate}
 use lib.Seq.{length-take-le}
-use Rattle.rows.specs.Limits.{mostAgents, mostPlants, mostContracts}
+use Rattle.limits.specs.Limits.{mostAgents, mostPlants, mostContracts}
 use Rattle.sheet.proofs.Accepted.{Few, accepted-few, accepted-counts}
 use Rattle.columns.proofs.Refusing.{room-for}
 use Rattle.hour.specs.Answer.{lent}

@@ -9,7 +9,7 @@ use Rattle.sums.proofs.Fill.{filled-none, filled-more, filled-by}
 use Rattle.octets.specs.Bytes.{wordsAt}
 use Rattle.rows.specs.Rows.{agentOf}
 use Rattle.octets.specs.declared.Words.{Words}
-use Rattle.rows.specs.declared.Agent.{Agent}
+use Rattle.limits.specs.declared.Agent.{Agent}
 use Rattle.sheet.specs.Asking.{agentAt}
 use Rattle.sheet.proofs.Sections.{agent-row}
 use Rattle.page.proofs.fill_kinds.Statement.{statement}

@@ -10,7 +10,7 @@ use lib.Dec.{leb}
 use lib.ListN.{length}
 use Rattle.sums.specs.Lists.{at, Filled}
 use Rattle.sums.proofs.Fill.{filled-none, filled-count}
-use Rattle.rows.specs.Limits.{mostAgents}
+use Rattle.limits.specs.Limits.{mostAgents}
 use Rattle.printing.specs.Text.{linesTo}
 use Rattle.printing.specs.Page.{lineOf, pageOf}
 use Rattle.printing.specs.Put.{headOf, Listed, Appended}

@@ -5,7 +5,7 @@ use borrow.Author.Needs.{needs}
 use denote.Ref.{now}
 use Rattle.refusals.specs.declared.Verdict.{Verdict}
 use Rattle.rows.specs.Rows.{contractOf}
-use Rattle.rows.specs.declared.Contract.{Contract}
+use Rattle.limits.specs.declared.Contract.{Contract}
 use Rattle.octets.specs.declared.Words.{Words}
 use Rattle.sheet.specs.Asking.{contractAt}
 use Rattle.sheet.proofs.Accepted.{accepted-few, accepted-contract}

@@ -6,7 +6,7 @@ use Prim.Native.Nat.{ℕ, _≤_, _<_}
 use mathlib.Core.List.{List}
 use mathlib.Core.Path.{_≡_, refl, _∙_, sym}
 use Rattle.refusals.specs.declared.Verdict.{Verdict}
-use Rattle.rows.specs.Limits.{mostAgents}
+use Rattle.limits.specs.Limits.{mostAgents}
 use Rattle.sums.specs.Lists.{at, Filled}
 use Rattle.sums.proofs.Fill.{filled-count, front-fits, front-long}
 use Rattle.sheet.proofs.Accepted.{accepted-few}

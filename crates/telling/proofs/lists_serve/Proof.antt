@@ -6,7 +6,7 @@ use native.Mathlib.Omega.{arith}
 use borrow.Author.Tests.{leb-true}
 use lib.Dec.{leb}
 use Rattle.sums.proofs.Tests.{all-true}
-use Rattle.rows.specs.Limits.{mostAgents, mostPlants, mostContracts}
+use Rattle.limits.specs.Limits.{mostAgents, mostPlants, mostContracts}
 use Rattle.telling.specs.Text.{listsServe}
 use Rattle.telling.proofs.lists_serve.Statement.{statement}
 use Rattle.telling.proofs.lists_serve.Tie as tie

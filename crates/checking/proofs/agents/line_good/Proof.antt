@@ -5,7 +5,7 @@ use mathlib.Core.Path.{_≡_}
 use mir.Syntax.{w64}
 use mir.Val.{toZ, ofZ}
 use mir.ValLaws.{toZ-ofZ}
-use Rattle.rows.specs.Limits.{mostOffer}
+use Rattle.limits.specs.Limits.{mostOffer}
 use Rattle.hour.specs.Lines.{moneyOf}
 use Rattle.hour.proofs.Money.{money-fits}
 use Rattle.statement.specs.Tests.{sameMoney}

@@ -3,7 +3,7 @@ use Prim.Native.Nat.{_≤_}
 use mathlib.Core.Path.{_≡_, ap, _∙_, sym}
 use lib.ListN.{take}
 use Rattle.sums.proofs.Fill.{front-fits, front-long}
-use Rattle.rows.specs.Limits.{mostContracts}
+use Rattle.limits.specs.Limits.{mostContracts}
 use Rattle.sheet.proofs.Accepted.{accepted-few}
 use Rattle.columns.specs.Columns.{columnsOf}
 use Rattle.columns.proofs.Columns.{contracts-long, sound}

@@ -4,7 +4,7 @@ use native.Mathlib.Omega.{arith}
 use borrow.Author.Needs.{needs}
 use lib.ListN.{length}
 use Rattle.sums.specs.Lists.{at}
-use Rattle.rows.specs.Limits.{mostAgents}
+use Rattle.limits.specs.Limits.{mostAgents}
 use Rattle.checking.specs.Accounts.{rowsFrom, AllSummed}
 use Rattle.checking.proofs.Accounts.{all-unsummed, all-summed-more}
 use Rattle.checking.proofs.passes.add_rows.Statement.{statement}

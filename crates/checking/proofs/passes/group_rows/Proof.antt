@@ -4,7 +4,7 @@ use native.Mathlib.Omega.{arith}
 use borrow.Author.Needs.{needs}
 use lib.ListN.{length}
 use Rattle.sums.specs.Lists.{at}
-use Rattle.rows.specs.Limits.{mostAgents}
+use Rattle.limits.specs.Limits.{mostAgents}
 use Rattle.checking.specs.Accounts.{rowsFrom, AllFine}
 use Rattle.checking.proofs.Accounts.{all-fine-none, all-fine-more}
 use Rattle.checking.proofs.passes.group_rows.Statement.{statement}

@@ -4,7 +4,7 @@ use Prim.Native.Nat.{_≤_, _<_, _-_}
 use native.Mathlib.Omega.{arith}
 use borrow.Author.Needs.{needs}
 use lib.ListN.{length}
-use Rattle.rows.specs.Limits.{mostAgents}
+use Rattle.limits.specs.Limits.{mostAgents}
 use Rattle.checking.specs.Accounts.{rowsFrom, AllSeen}
 use Rattle.checking.proofs.Accounts.{all-unseen, all-seen-more}
 use Rattle.checking.proofs.passes.look_rows.Statement.{statement}

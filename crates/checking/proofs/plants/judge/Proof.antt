@@ -4,7 +4,7 @@ use Prim.Native.Nat.{_≤_}
 use mathlib.Core.Path.{_≡_, sym}
 use lib.ListN.{take}
 use Rattle.sums.proofs.Fill.{front-fits, front-long}
-use Rattle.rows.specs.Limits.{mostPlants}
+use Rattle.limits.specs.Limits.{mostPlants}
 use Rattle.sheet.proofs.Accepted.{accepted-few}
 use Rattle.columns.specs.Columns.{columnsOf}
 use Rattle.columns.proofs.Columns.{plants-long}

@@ -6,7 +6,7 @@ use lib.ListN.{length, length-set}
 use Rattle.sums.specs.Sums.{keyed}
 use Rattle.sums.specs.Lists.{at}
 use Rattle.sums.proofs.Keyed.{keyed-none, keyed-beside, keyed-most}
-use Rattle.rows.specs.Limits.{mostAgents}
+use Rattle.limits.specs.Limits.{mostAgents}
 use Rattle.checking.specs.Passes.{room}
 use Rattle.checking.proofs.tally.tally.Statement.{statement}
 use Rattle.checking.proofs.tally.tally.Tie as tie

@@ -3,7 +3,7 @@ use native.Mathlib.Omega.{arith}
 use Prim.Native.Nat.{ℕ, _≤_, _-_}
 use mathlib.Core.List.{List}
 use mathlib.Core.Path.{_≡_, ap}
-use Rattle.rows.specs.declared.Plant.{Plant}
+use Rattle.limits.specs.declared.Plant.{Plant}
 use Rattle.sums.specs.Lists.{Filled}
 use Rattle.sums.proofs.Fill.{filled-none, filled-more}
 use Rattle.columns.specs.Columns.{columnsOf}

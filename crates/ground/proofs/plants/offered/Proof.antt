@@ -2,8 +2,8 @@ use borrow.Author.Needs.{needs}
 use native.Mathlib.Omega.{arith}
 use Prim.Native.Nat.{ℕ, _≤_, _<_, _-_}
 use mathlib.Core.Path.{_≡_, ap, _∙_, sym}
-use Rattle.rows.specs.Limits.{mostPlants, mostAvailable}
-use Rattle.rows.specs.declared.Plant.{Plant}
+use Rattle.limits.specs.Limits.{mostPlants, mostAvailable}
+use Rattle.limits.specs.declared.Plant.{Plant}
 use Rattle.sums.specs.Sums.{sum}
 use Rattle.sums.proofs.Sums.{sum-none, sum-step, sum-most}
 use Rattle.sheet.proofs.Accepted.{accepted-few}

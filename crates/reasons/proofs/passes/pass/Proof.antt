@@ -4,10 +4,10 @@ use Prim.Native.Nat.{ℕ, _≤_, _-_, _+_}
 use mathlib.Core.List.{List}
 use mathlib.Core.Path.{_≡_, ap, _∙_, sym}
 use denote.Ref.{now}
-use Rattle.rows.specs.Limits.{mostQuantity}
+use Rattle.limits.specs.Limits.{mostQuantity}
 use Rattle.octets.specs.Bytes.{wordsAt}
 use Rattle.rows.specs.Rows.{contractOf}
-use Rattle.rows.specs.declared.Contract.{Contract}
+use Rattle.limits.specs.declared.Contract.{Contract}
 use Rattle.sums.specs.Sums.{sum}
 use Rattle.sums.proofs.Sums.{sum-none, sum-step, sum-most}
 use Rattle.sums.proofs.Picks.{pick-le}

@@ -5,7 +5,7 @@ use native.Mathlib.Omega.{arith}
 use Prim.Native.Nat.{ℕ, _+_, _-_, _≤_, _<_}
 use mathlib.Core.Path.{_≡_, ap, _∙_, sym}
 use lib.ListN.{length, take}
-use Rattle.rows.specs.Limits.{mostPlants}
+use Rattle.limits.specs.Limits.{mostPlants}
 use Rattle.sums.specs.Sums.{sum}
 use Rattle.sums.specs.Lists.{at, Filled}
 use Rattle.sums.proofs.Sums.{sum-eq}

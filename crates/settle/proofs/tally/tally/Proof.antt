@@ -3,7 +3,7 @@ use native.Mathlib.Omega.{arith}
 use Prim.Native.Nat.{ℕ, _≤_, _<_, _+_, _-_}
 use mathlib.Core.Path.{_≡_, refl, _∙_, sym}
 use lib.ListN.{length, length-set}
-use Rattle.rows.specs.Limits.{mostAgents, mostAvailable}
+use Rattle.limits.specs.Limits.{mostAgents, mostAvailable}
 use Rattle.sums.specs.Sums.{keyed}
 use Rattle.sums.specs.Lists.{at}
 use Rattle.sums.proofs.Keyed.{keyed-none, keyed-beside, keyed-most}

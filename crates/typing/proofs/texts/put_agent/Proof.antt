@@ -5,7 +5,7 @@ use native.Mathlib.Omega.{arith}
 use borrow.Author.Needs.{needs}
 use denote.Ref.{now}
 use lib.ListN.{drop}
-use Rattle.rows.specs.declared.Agent.{Agent}
+use Rattle.limits.specs.declared.Agent.{Agent}
 use Rattle.printing.specs.Put.{PutInRoom}
 use Rattle.text.specs.Lines.{agentWord}
 use Rattle.text.specs.Written.{rowText}

@@ -5,7 +5,7 @@ use native.Mathlib.Omega.{arith}
 use borrow.Author.Needs.{needs}
 use denote.Ref.{now}
 use lib.ListN.{drop}
-use Rattle.rows.specs.declared.Contract.{Contract}
+use Rattle.limits.specs.declared.Contract.{Contract}
 use Rattle.printing.specs.Put.{PutInRoom}
 use Rattle.text.specs.Lines.{contractWord}
 use Rattle.text.specs.Written.{rowText}

@@ -1,6 +1,8 @@
 -- Document 01, 'The hour sheet': the limits of each kind of row. In the code they are associated constants of the row types;
--- the row tests and `few` tie the two, so that neither can change alone. Assumes nothing.
+-- the tests of this crate tie the two, so that neither can change alone. Assumes nothing.
 use Prim.Native.Nat.{ℕ}
+use mathlib.Core.Bool.{Bool, _&&_}
+use lib.Dec.{leb}
 
 -- how many rows a section may have
 abbrev pub mostAgents : ℕ
@@ -35,3 +37,8 @@ mostPrice = 1000000
 
 abbrev pub mostQuantity : ℕ
 mostQuantity = 4000000
+
+-- no section has more rows than its limit
+abbrev pub fewRows : (agents boundaries plants contracts : ℕ) → Bool
+fewRows agents boundaries plants contracts =
+    leb agents mostAgents && leb boundaries mostBoundaries && leb plants mostPlants && leb contracts mostContracts
