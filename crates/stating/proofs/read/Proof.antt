@@ -25,24 +25,24 @@ abbrev fill-to-else2 : tie.After-fill → tie.Else2
 fill-to-else2 c = c .before .before .before .before .before
 
 -- the lists as they were lent
-abbrev lent : tie.After-lists-fit → Lent
-lent c =
+abbrev lists : tie.After-lists-fit → Lent
+lists c =
     let a = fit-to-start c .args in
     lent (now (a .figures)) (now (a .money)) (now (a .schedule)) (now (a .amounts))
 
 abbrev typed : tie.After-lists-fit → List ℕ
 typed c = now (fit-to-start c .args .text)
 
-fitting : (c : tie.Else1) → listsFit (fit-to-start (c .before) .args .c) (lent (c .before)) ≡ true
+fitting : (c : tie.Else1) → listsFit (fit-to-start (c .before) .args .c) (lists (c .before)) ≡ true
 fitting c = sym (c .before .lists-fit .ensures) ∙ not-false (c .before .lists-fit .result) (c .if1 .left)
 
 returns : tie.Need-returns
 returns c =
     let w = c .before in
-    not-fit (typed w) (fit-to-start w .args .c) (lent w) (sym (w .lists-fit .ensures) ∙ not-true (w .lists-fit .result) (c .if1 .taken))
+    not-fit (typed w) (fit-to-start w .args .c) (lists w) (sym (w .lists-fit .ensures) ∙ not-true (w .lists-fit .result) (c .if1 .taken))
 
 judge-requires : tie.Need-judge-requires
-judge-requires c κs = counts-good (fit-to-start (c .before) .args .c) (lent (c .before)) (fitting c)
+judge-requires c κs = counts-good (fit-to-start (c .before) .args .c) (lists (c .before)) (fitting c)
 
 returns-2 : tie.Need-returns-2
 returns-2 c =
@@ -50,7 +50,7 @@ returns-2 c =
     let j = i .before in
     let e = j .before in
     let w = e .before in
-    wrong-line (typed w) (fit-to-start w .args .c) (lent w) (j .judge .result .line) (j .judge .result .fault) (fitting e)
+    wrong-line (typed w) (fit-to-start w .args .c) (lists w) (j .judge .result .line) (j .judge .result .fault) (fitting e)
     (j .judge .ensures .0) (j .judge .ensures .1) (sym (i .is-found .ensures) ∙ c .if2 .taken)
 
 returns-3 : tie.Need-returns-3
@@ -61,7 +61,7 @@ returns-3 c =
     let j = i .before in
     let e = j .before in
     let w = e .before in
-    all-read (typed w) (fit-to-start w .args .c) (lent w) _ (f .fill .result) (j .judge .result .fault) (fitting e)
+    all-read (typed w) (fit-to-start w .args .c) (lists w) _ (f .fill .result) (j .judge .result .fault) (fitting e)
     (j .judge .ensures .1) (sym (i .is-found .ensures) ∙ g .if2 .left) (f .fill .ensures .1) (f .fill .ensures .0)
 
 pub read-spec : {M : Type 1} → statement M
