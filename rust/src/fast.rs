@@ -66,16 +66,29 @@ fn sections(sheet: &[u8]) -> Answer<Sections<'_>> {
 
 // ---- the sharing rule
 
+/// The amount's part of the total, in 2^32nds and not above 1: what `divided` multiplies by.
+#[inline]
+fn rate(amount: u64, total: u64) -> u64 {
+    ((amount << 32) / total).min(1 << 32)
+}
+
+/// A weight's proportion rounded down, and the remainder; the division is hardly ever made.
+#[inline]
+fn divided(amount: u64, weight: u32, total: u64, rate: u64) -> (u64, u64) {
+    let guess = (rate * weight as u64) >> 32;
+    let rest = amount * weight as u64 - guess * total;
+    if rest < total { (guess, rest) } else { (guess + rest / total, rest % total) }
+}
+
 /// The shares of an amount, one a weight, for weights whose total is not 0. `keys` is scratch for as many.
 #[inline]
 fn share_some(amount: u64, total: u64, weights: &[u32], out: &mut [u32], keys: &mut [u64]) {
     let mut left = amount;
     let mut waiting = 0;
     let keys = &mut keys[..weights.len()];
+    let rate = rate(amount, total);
     for (i, (&w, cell)) in weights.iter().zip(out.iter_mut()).enumerate() {
-        let product = amount * w as u64;
-        let floor = product / total;
-        let remainder = product - floor * total;
+        let (floor, remainder) = divided(amount, w, total, rate);
         *cell = floor as u32;
         left -= floor;
         if remainder != 0 {
@@ -496,12 +509,12 @@ fn demanded_part(part: &mut [u64], rest: u32, amounts: &mut [u32]) {
 #[inline]
 fn share_group(group: &mut [u64], total: u64, amount: u64, amounts: &mut [u32]) {
     let mut left = amount;
+    let rate = rate(amount, total);
     for deal in group.iter_mut() {
-        let product = amount * quantity(*deal) as u64;
-        let floor = product / total;
+        let (floor, remainder) = divided(amount, quantity(*deal), total, rate);
         amounts[row(*deal)] = floor as u32;
         left -= floor;
-        *deal = !(product - floor * total) << 32 | (*deal & 0xffff_ffff);
+        *deal = !remainder << 32 | (*deal & 0xffff_ffff);
     }
     let left = left as usize;
     if left > 0 {

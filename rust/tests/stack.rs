@@ -6,12 +6,12 @@ use std::process::Command;
 /// Each call with the bytes that it stays under.
 const MOST: [(&str, usize); 8] = [
     ("settle", 11 << 10),
-    ("page", 15 << 10),
+    ("page", 14 << 10),
     ("check", 23 << 10),
-    ("day", 12 << 10),
+    ("day", 11 << 10),
     ("sheet_text", 72 << 10),
     ("make_sheet", 12 << 10),
-    ("statement_text", 42 << 10),
+    ("statement_text", 41 << 10),
     ("read_statement", 1 << 10),
 ];
 

@@ -20,6 +20,15 @@ pub record Sharing (weights : List ℕ) (t : ℕ) : Type 0 where
   pub above : 0 < t
   pub small : t ≤ mostTotal
 
+-- a whole one of what a rate counts in, 2^32nds
+abbrev pub wholeRate : ℕ
+wholeRate = 4294967296
+
+-- a rate of an amount over a total t: not above it, nor above a whole one
+pub record Rate (amount t rate : ℕ) : Type 0 where
+  pub most : rate ≤ wholeRate
+  pub below : rate * t ≤ amount * wholeRate
+
 -- what rounding down gives: the floors in the list, and the kWh left over
 pub record Floored (amount : ℕ) (weights before : List ℕ) (r : ℕ) (after : List ℕ) : Type 0 where
   pub left : r ≡ leftOver amount weights

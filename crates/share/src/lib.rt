@@ -10,7 +10,7 @@ ghost use Rattle.sums.specs.Sums.{pick};
 ghost use Rattle.sums.specs.Lists.{at, total, Filled};
 ghost use Rattle.crossing.specs.Crossing.{Bracket, taken};
 ghost use Rattle.share.specs.Share.{mostWeights, leftOver, shareOf, Shared};
-ghost use Rattle.share.specs.Lacks.{mostTotal, Sharing, Floored, FloorsHeld, lackOf, one, Lesser, NextLack};
+ghost use Rattle.share.specs.Lacks.{mostTotal, Sharing, wholeRate, Rate, Floored, FloorsHeld, lackOf, one, Lesser, NextLack};
 ghost use Rattle.share.specs.Lacks.{Narrowed, Noted, Cleared, Classed, Levelled, Chosen, Closed};
 
 // More weights than this are refused.
@@ -56,6 +56,55 @@ fn lack(amount: u32, weight: u32, t: u64, floor: u32) -> u64
 {
     t - (product(amount, weight) - (floor as u64) * t)
 }
+
+// ---- the proportions, with one division for all of them
+
+// A whole one of what a rate counts in.
+const WHOLE: u64 = 4294967296;
+
+// The amount's part of the total, in 2^32nds: rounded down, and a whole one at the most, so that it can be multiplied by any weight.
+fn rate_of(amount: u32, t: u64) -> u64
+    requires { ⌜ 0 < t ⌝ }
+    ensures { λ r. ⌜ Rate amount t r ⌝ }
+{
+    lower(sums::wide(amount) * WHOLE / t, WHOLE)
+}
+
+// What a rate gives a weight, rounded down.
+fn rated(rate: u64, weight: u32) -> u64
+    requires { ⌜ rate ≤ wholeRate ⌝ }
+    ensures { λ r. ⌜ r ≡ rate * weight / wholeRate ⌝ }
+{
+    rate * sums::wide(weight) / WHOLE
+}
+
+// A weight's proportion of the amount, rounded down, and the remainder.
+struct Divided {
+    floor: u32,
+    remainder: u64,
+}
+
+// What the rate gives is the floor or less: only where it leaves no less than the total is a division made for this weight.
+fn divide(amount: u32, weight: u32, t: u64, rate: u64) -> Divided
+    requires { ⌜ (0 < t) × (weight ≤ t) × Rate amount t rate ⌝ }
+    ensures { λ r. ⌜ (r .floor ≡ amount * weight / t) × (r .remainder ≡ amount * weight % t) ⌝ }
+{
+    let p = product(amount, weight);
+    let guess = rated(rate, weight);
+    let rest = p - guess * t;
+    if rest < t {
+        return Divided {
+            floor: guess as u32,
+            remainder: rest,
+        };
+    }
+    Divided {
+        floor: (p / t) as u32,
+        remainder: p % t,
+    }
+}
+
+// ---- where the kWh left over go
 
 // The kWh left over cross the weights, by what these lack, somewhere from `low` to `high`; `left` of them reach `low`.
 // `held` is how many are counted in it, or 0, and only chooses the next step.
@@ -190,12 +239,13 @@ fn floors(amount: u32, weights: &[u32], t: u64, s: u32, out: &mut [u32], counts:
     ensures { λ r. ⌜ Floored amount (now (weights .entry)) (now (out .entry)) r (now (out .exit))
         × Classed (lackOf amount (now (weights .entry))) (length (now (weights .entry))) 0 (2 ^ s) (now (counts .exit)) ⌝ }
 {
+    let rate = rate_of(amount, t);
     let mut left = amount;
     let mut i = 0;
     while i < weights.len() {
-        let w = weights[i];
-        let floor = (product(amount, w) / t) as u32;
-        note(counts, 0, s, lack(amount, w, t, floor));
+        let p = divide(amount, weights[i], t, rate);
+        let floor = p.floor;
+        note(counts, 0, s, t - p.remainder);
         out[i] = floor;
         left -= floor;
         i += 1;
