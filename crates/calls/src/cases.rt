@@ -59,7 +59,53 @@ fn room(n: u32, most: usize) -> usize
     if wanted < most { wanted } else { most }
 }
 
-// The functions of the library by number; those for C have the numbers from 13 on.
+// The functions of the library by number, those for C from 13 on; each of what follows is lent what its own calls ask for.
+fn call_sheet(call: u32, x: u32, y: u32, bytes: &[u8]) {
+    match call {
+        1 => library::read(bytes),
+        2 => library::ask_row(bytes, x, y),
+        3 => library::ask_section(bytes, x),
+        _ => library::weigh(bytes),
+    }
+}
+
+fn call_part(
+    call: u32,
+    x: u32,
+    bytes: &[u8],
+    a: &[u32],
+    b: &[u32],
+    c: &[u32],
+    schedule: &mut [u32],
+    amounts: &mut [u32],
+) {
+    match call {
+        5 => library::share(x, a, amounts),
+        6 => library::dispatch(a, b, x, schedule),
+        7 => library::price(a, b, c),
+        _ => library::assign(bytes, a, amounts),
+    }
+}
+
+fn call_text(
+    call: u32,
+    x: u32,
+    y: u32,
+    bytes: &[u8],
+    a: &[u32],
+    b: &[u32],
+    c: &[u32],
+    d: &[u32],
+    money: &[i64],
+    text: &mut [u8],
+) {
+    match call {
+        4 => library::write(a, b, c, d, text),
+        11 => library::print(x, y, a, b, money, text),
+        _ => library::page(bytes, text),
+    }
+}
+
 fn call_library(
     call: u32,
     x: u32,
@@ -76,18 +122,48 @@ fn call_library(
     text: &mut [u8],
 ) {
     match call {
-        1 => library::read(bytes),
-        2 => library::ask_row(bytes, x, y),
-        3 => library::ask_section(bytes, x),
-        4 => library::write(a, b, c, d, text),
-        5 => library::share(x, a, amounts),
-        6 => library::dispatch(a, b, x, schedule),
-        7 => library::price(a, b, c),
-        8 => library::assign(bytes, a, amounts),
-        9 => library::weigh(bytes),
+        1..=3 | 9 => call_sheet(call, x, y, bytes),
+        5..=8 => call_part(call, x, bytes, a, b, c, schedule, amounts),
         10 => library::settle(bytes, figures, money, schedule, amounts),
-        11 => library::print(x, y, a, b, money, text),
-        _ => library::page(bytes, text),
+        _ => call_text(call, x, y, bytes, a, b, c, d, money, text),
+    }
+}
+
+fn export_text(
+    call: u32,
+    bytes: &[u8],
+    a: &[u32],
+    b: &[u32],
+    c: &[u32],
+    d: &[u32],
+    amounts: &mut [u32],
+    text: &mut [u8],
+    answer: &mut [u32],
+) {
+    match call {
+        15 => exported::write(a, b, c, d, text, answer),
+        17 => exported::page(bytes, text, answer),
+        _ => exported::mend(bytes, text, amounts, answer),
+    }
+}
+
+fn export_told(
+    call: u32,
+    x: u32,
+    y: u32,
+    bytes: &[u8],
+    a: &[u32],
+    b: &[u32],
+    amounts: &mut [u32],
+    answer: &mut [u32],
+) {
+    match call {
+        13 => exported::share(x, a, amounts),
+        14 => exported::read(bytes, answer),
+        19 => exported::why_plant(bytes, x, answer),
+        20 => exported::why_contract(bytes, x, answer),
+        22 => exported::entry(bytes, a, b, answer),
+        _ => books::run(call == 23, x, y, a),
     }
 }
 
@@ -108,18 +184,10 @@ fn call_exported(
     answer: &mut [u32],
 ) {
     match call {
-        13 => exported::share(x, a, amounts),
-        14 => exported::read(bytes, answer),
-        15 => exported::write(a, b, c, d, text, answer),
+        15 | 17 | 21 => export_text(call, bytes, a, b, c, d, amounts, text, answer),
         16 => exported::settle(bytes, figures, money, schedule, amounts, answer),
-        17 => exported::page(bytes, text, answer),
         18 => exported::check(bytes, x, a, b, c, figures, money, schedule, amounts, answer),
-        19 => exported::why_plant(bytes, x, answer),
-        20 => exported::why_contract(bytes, x, answer),
-        21 => exported::mend(bytes, text, amounts, answer),
-        22 => exported::entry(bytes, a, b, answer),
-        23 => books::run(true, x, y, a),
-        _ => books::run(false, x, y, a),
+        _ => export_told(call, x, y, bytes, a, b, amounts, answer),
     }
 }
 
