@@ -72,7 +72,7 @@ fn rate(amount: u64, total: u64) -> u64 {
     ((amount << 32) / total).min(1 << 32)
 }
 
-/// A weight's proportion rounded down, and the remainder; the division is hardly ever made.
+/// A weight's proportion rounded down, and the remainder; a division is made only where the rate gives less than the floor.
 #[inline]
 fn divided(amount: u64, weight: u32, total: u64, rate: u64) -> (u64, u64) {
     let guess = (rate * weight as u64) >> 32;
