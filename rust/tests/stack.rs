@@ -5,13 +5,13 @@ use std::process::Command;
 
 /// Each call with the bytes that it stays under.
 const MOST: [(&str, usize); 8] = [
-    ("settle", 11 << 10),
-    ("page", 14 << 10),
+    ("settle", 8 << 10),
+    ("page", 12 << 10),
     ("check", 23 << 10),
-    ("day", 11 << 10),
+    ("day", 9 << 10),
     ("sheet_text", 72 << 10),
     ("make_sheet", 12 << 10),
-    ("statement_text", 41 << 10),
+    ("statement_text", 39 << 10),
     ("read_statement", 1 << 10),
 ];
 

@@ -5,44 +5,15 @@ use mathlib.Core.Path.{_≡_}
 use lib.ListN.{replicate}
 use Rattle.limits.specs.Limits.{mostAgents}
 use Rattle.sums.specs.Lists.{at, Filled}
-use Rattle.refusals.specs.Refusals.{orElse, cells}
+use Rattle.refusals.specs.Refusals.{cells}
 use Rattle.refusals.specs.declared.Verdict.{Verdict}
-use Rattle.sheet.specs.Reading.{readVerdict, countsOf}
-use Rattle.sheet.specs.declared.Counts.{Counts}
-use Rattle.columns.specs.Columns.{hourOf}
 use Rattle.hour.specs.Sheet.{Sheet, agents}
 use Rattle.hour.specs.Balance.{ownImport, losses, lossShare, commercial, hourDemand, injected, dispatchDemand}
-use Rattle.hour.specs.Answer.{balanceVerdict}
-use Rattle.balance.specs.declared.Balance.{Balance}
 use Rattle.balance.specs.declared.Weight.{Weight}
 
 -- an array with a cell an agent, before anything is written
 abbrev pub zeros : List ℕ
 zeros = replicate mostAgents 0
-
--- the counts of a sheet that is fine; none of one that is refused
-abbrev pub noCounts : Counts
-noCounts = record { agents = 0; boundaries = 0; plants = 0; contracts = 0 }
-
-abbrev pub countsIf : Verdict → Counts → Counts
-countsIf Verdict.Fine c = c
-countsIf (Verdict.Refused r) c = noCounts
-
--- a refused balance
-abbrev pub nothing : Verdict → Balance
-nothing v =
-    record {
-      verdict = v;
-      counts = noCounts;
-      kinds = zeros;
-      shares = zeros;
-      commercial = zeros;
-      own = zeros;
-      imports = zeros;
-      losses = 0;
-      demand = 0;
-      target = 0;
-    }
 
 -- own energy but for what plants are scheduled: commercial demand, or what a small generator delivers. Nobody has both
 abbrev pub unscheduled : Sheet → ℕ → ℕ
@@ -75,26 +46,3 @@ pub record Weighing (v : Verdict) (h : Sheet) (before after : Ledger) (r : Weigh
   pub demand : r .demand ≡ cells v (hourDemand h)
   pub target : r .target ≡ cells v (dispatchDemand h)
   pub columns : v ≡ Verdict.Fine → Posted h before after
-
--- by the verdict v of the sheet h with the counts c: where it is fine the agents' kinds, loss shares, commercial demands, own energy
--- and own imports stand in the first cells, with the counts, the losses, the hour's demand and what central dispatch has to meet of it;
--- where it is refused all is 0
-pub record Balances (v : Verdict) (c : Counts) (h : Sheet) (r : Balance) : Type 0 where
-  pub answer : r .verdict ≡ v
-  pub counts : r .counts ≡ countsIf v c
-  pub kinds : Filled 0 zeros (r .kinds) (cells v (agents h)) (at (h .kinds))
-  pub shares : Filled 0 zeros (r .shares) (cells v (agents h)) (lossShare h)
-  pub commercial : Filled 0 zeros (r .commercial) (cells v (agents h)) (commercial h)
-  pub own : Filled 0 zeros (r .own) (cells v (agents h)) (unscheduled h)
-  pub imports : Filled 0 zeros (r .imports) (cells v (agents h)) (ownImport h)
-  pub losses : r .losses ≡ cells v (losses h)
-  pub demand : r .demand ≡ cells v (hourDemand h)
-  pub target : r .target ≡ cells v (dispatchDemand h)
-
--- refusals 1 to 6 are reading's, 7 to 9 the balance's
-unfoldable pub weighVerdict : List ℕ → Verdict
-weighVerdict bytes = orElse (readVerdict bytes) (balanceVerdict (hourOf bytes))
-
--- the promise of weighing
-abbrev pub Weighed : (bytes : List ℕ) → Balance → Type 0
-Weighed bytes r = Balances (weighVerdict bytes) (countsOf bytes) (hourOf bytes) r

@@ -4,7 +4,6 @@ use limits::Boundary;
 use refusals::Refusal;
 use refusals::Verdict;
 use sheet::Counts;
-use sheet::Reading;
 ghost use mathlib.Core.Path.{_≡_};
 ghost use mathlib.Core.Bool.{_&&_, _||_, not};
 ghost use Prim.Native.Nat.{ℕ, _+_, _-_, _≤_, _<_};
@@ -21,30 +20,15 @@ ghost use Rattle.columns.specs.Columns.{columnsOf};
 ghost use Rattle.share.specs.Share.{Shared};
 ghost use Rattle.hour.specs.Balance.{referred, rounded};
 ghost use Rattle.hour.specs.Answer.{balanceVerdict};
-ghost use Rattle.balance.specs.Balances.{zeros, nothing, ledger, Weighing, Balances, Weighed};
+ghost use Rattle.balance.specs.Balances.{zeros, ledger, Weighing};
 ghost use Rattle.balance.specs.Parts.{mostExact, Metered, Read, weighedBy};
-
-// A sheet's balance, agent by agent, with the counts that reading gave. A refused one is all zeros.
-pub struct Balance {
-    pub verdict: Verdict,
-    pub counts: Counts,
-    pub kinds: [u32; Agent::MOST],
-    pub shares: [u32; Agent::MOST],
-    pub commercial: [u32; Agent::MOST],
-    // Own energy but for what plants are scheduled: commercial demand, or what a small generator delivers.
-    pub own: [u32; Agent::MOST],
-    pub imports: [u32; Agent::MOST],
-    pub losses: u32,
-    pub demand: u32,
-    // What central dispatch has to meet of the demand.
-    pub target: u32,
-}
 
 // What weighing answers beside the columns. A refused sheet has 0.
 pub struct Weight {
     pub verdict: Verdict,
     pub losses: u32,
     pub demand: u32,
+    // What central dispatch has to meet of the demand.
     pub target: u32,
 }
 
@@ -271,28 +255,6 @@ fn judge(over: usize, n: usize, entering: u32, leaving: u32, consumed: u32) -> V
     refusals::refuse(Refusal::UNSHARED, 0)
 }
 
-fn turned_away(verdict: Verdict) -> Balance
-    ensures { λ r. ⌜ r ≡ nothing verdict ⌝ }
-{
-    Balance {
-        verdict,
-        counts: Counts {
-            agents: 0,
-            boundaries: 0,
-            plants: 0,
-            contracts: 0,
-        },
-        kinds: [0u32; Agent::MOST],
-        shares: [0u32; Agent::MOST],
-        commercial: [0u32; Agent::MOST],
-        own: [0u32; Agent::MOST],
-        imports: [0u32; Agent::MOST],
-        losses: 0,
-        demand: 0,
-        target: 0,
-    }
-}
-
 // What each agent is, took, delivered and consumed in whole kWh, each into its column; the first retailer that delivers more than it
 // takes, or n. The exact columns are gone when it is done.
 fn read_columns(
@@ -361,51 +323,5 @@ pub fn weigh_read(
         losses,
         demand,
         target,
-    }
-}
-
-// Weighs what was taken against what was delivered, of any bytes: reading's refusals come first.
-pub fn weigh(s: &[u8]) -> Balance
-    ensures { λ r. ⌜ Weighed (now (s .entry)) r ⌝ }
-{
-    match sheet::read(s) {
-        Reading::Accepted(c) => balance_of(s, c),
-        Reading::Refused(why) => turned_away(Verdict::Refused(why)),
-    }
-}
-
-fn balance_of(s: &[u8], c: Counts) -> Balance
-    requires { ⌜ readOf (now s) ≡ Reading.Accepted c ⌝ }
-    ensures { λ r. ⌜ Balances (balanceVerdict (columnsOf (now (s .entry)) c)) c (columnsOf (now (s .entry)) c) r ⌝ }
-{
-    let mut kinds = [0u32; Agent::MOST];
-    let mut shares = [0u32; Agent::MOST];
-    let mut commercial = [0u32; Agent::MOST];
-    let mut own = [0u32; Agent::MOST];
-    let mut imports = [0u32; Agent::MOST];
-    let w = weigh_read(
-        s,
-        c,
-        &mut kinds,
-        &mut shares,
-        &mut commercial,
-        &mut own,
-        &mut imports,
-    );
-    let verdict = w.verdict;
-    let Verdict::Fine = verdict else {
-        return turned_away(verdict);
-    };
-    Balance {
-        verdict,
-        counts: c,
-        kinds,
-        shares,
-        commercial,
-        own,
-        imports,
-        losses: w.losses,
-        demand: w.demand,
-        target: w.target,
     }
 }

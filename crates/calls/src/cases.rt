@@ -59,13 +59,12 @@ fn room(n: u32, most: usize) -> usize
     if wanted < most { wanted } else { most }
 }
 
-// The functions of the library by number, those for C from 13 on; each of what follows is lent what its own calls ask for.
+// The functions of the library by number, those for C from 12 on; each of what follows is lent what its own calls ask for.
 fn call_sheet(call: u32, x: u32, y: u32, bytes: &[u8]) {
     match call {
         1 => library::read(bytes),
         2 => library::ask_row(bytes, x, y),
-        3 => library::ask_section(bytes, x),
-        _ => library::weigh(bytes),
+        _ => library::ask_section(bytes, x),
     }
 }
 
@@ -101,7 +100,7 @@ fn call_text(
 ) {
     match call {
         4 => library::write(a, b, c, d, text),
-        11 => library::print(x, y, a, b, money, text),
+        10 => library::print(x, y, a, b, money, text),
         _ => library::page(bytes, text),
     }
 }
@@ -122,9 +121,9 @@ fn call_library(
     text: &mut [u8],
 ) {
     match call {
-        1..=3 | 9 => call_sheet(call, x, y, bytes),
+        1..=3 => call_sheet(call, x, y, bytes),
         5..=8 => call_part(call, x, bytes, a, b, c, schedule, amounts),
-        10 => library::settle(bytes, figures, money, schedule, amounts),
+        9 => library::settle(bytes, figures, money, schedule, amounts),
         _ => call_text(call, x, y, bytes, a, b, c, d, money, text),
     }
 }
@@ -141,8 +140,8 @@ fn export_text(
     answer: &mut [u32],
 ) {
     match call {
-        15 => exported::write(a, b, c, d, text, answer),
-        17 => exported::page(bytes, text, answer),
+        14 => exported::write(a, b, c, d, text, answer),
+        16 => exported::page(bytes, text, answer),
         _ => exported::mend(bytes, text, amounts, answer),
     }
 }
@@ -158,12 +157,12 @@ fn export_told(
     answer: &mut [u32],
 ) {
     match call {
-        13 => exported::share(x, a, amounts),
-        14 => exported::read(bytes, answer),
-        19 => exported::why_plant(bytes, x, answer),
-        20 => exported::why_contract(bytes, x, answer),
-        22 => exported::entry(bytes, a, b, answer),
-        _ => books::run(call == 23, x, y, a),
+        12 => exported::share(x, a, amounts),
+        13 => exported::read(bytes, answer),
+        18 => exported::why_plant(bytes, x, answer),
+        19 => exported::why_contract(bytes, x, answer),
+        21 => exported::entry(bytes, a, b, answer),
+        _ => books::run(call == 22, x, y, a),
     }
 }
 
@@ -184,9 +183,9 @@ fn call_exported(
     answer: &mut [u32],
 ) {
     match call {
-        15 | 17 | 21 => export_text(call, bytes, a, b, c, d, amounts, text, answer),
-        16 => exported::settle(bytes, figures, money, schedule, amounts, answer),
-        18 => exported::check(bytes, x, a, b, c, figures, money, schedule, amounts, answer),
+        14 | 16 | 20 => export_text(call, bytes, a, b, c, d, amounts, text, answer),
+        15 => exported::settle(bytes, figures, money, schedule, amounts, answer),
+        17 => exported::check(bytes, x, a, b, c, figures, money, schedule, amounts, answer),
         _ => export_told(call, x, y, bytes, a, b, amounts, answer),
     }
 }
@@ -231,7 +230,7 @@ fn call_either(
     text: &mut [u8],
     answer: &mut [u32],
 ) {
-    if call < 13 {
+    if call < 12 {
         call_library(
             call,
             x,

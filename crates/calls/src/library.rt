@@ -75,13 +75,6 @@ pub(crate) fn assign(section: &[u8], demands: &[u32], out: &mut [u32]) {
     printer::verdict(contracts::assign(section, demands, out));
 }
 
-pub(crate) fn weigh(bytes: &[u8]) {
-    let b = balance::weigh(bytes);
-    let v = b.verdict;
-    printer::verdict(v);
-    printer::numbers(&[b.losses, b.demand]);
-}
-
 pub(crate) fn settle(
     bytes: &[u8],
     figures: &mut [u32],

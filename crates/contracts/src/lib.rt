@@ -8,16 +8,17 @@ mod sides;
 mod walk;
 
 ghost use mathlib.Core.Path.{_≡_};
-ghost use Prim.Native.Nat.{_≤_, _<_};
+ghost use Prim.Native.Nat.{_+_, _≤_, _<_};
 ghost use lib.Dec.{eqb};
 ghost use lib.ListN.{length};
 ghost use Rattle.sums.specs.Sums.{pick};
 ghost use Rattle.sums.specs.Lists.{at, Filled};
 ghost use Rattle.refusals.specs.Refusals.{refusedUnless, orElse, noRoom};
-ghost use Rattle.limits.specs.Limits.{mostContracts};
+ghost use Rattle.limits.specs.Limits.{mostAgents, mostContracts};
 ghost use Rattle.contracts.specs.Assign.{countIn, dealIn, dealsIn, sectionFits, assignVerdict, Assigned};
 ghost use Rattle.contracts.specs.Keys.{rowSpan, dealKey, keyIn, keyRow, Ready};
-ghost use Rattle.contracts.specs.Sides.{AddedUp, Numbered, SidesTotalled, Cuts, isCut, FrontKeys, Picked, Cut, AllAssigned};
+ghost use Rattle.contracts.specs.Sides.{AddedUp, Numbered, SidesTotalled, Cuts, isCut, Reserved, Planned};
+ghost use Rattle.contracts.specs.Sides.{FrontKeys, Picked, Cut, AllAssigned};
 ghost use Rattle.contracts.specs.Walk.{Rowed, Scattered};
 
 // ---- the key of each row, by which the rows are put in order
@@ -165,32 +166,65 @@ fn assign_cut(
     serve(section, keys, keys.len(), decided, demands, out);
 }
 
-// Where some side is cut: the rows of the others at once, then its own.
-fn assign_some(section: &[u8], decided: &[u32], counts: &[u32], demands: &[u32], out: &mut [u32])
+// Where some side is cut: the rows of the others at once, then its own, of which there are `rows`.
+fn assign_some(
+    section: &[u8],
+    decided: &[u32],
+    next: &mut [u32],
+    rows: usize,
+    demands: &[u32],
+    out: &mut [u32],
+)
     requires { ⌜ Ready (dealsIn (now section)) (now demands) × (countIn (now section) ≤ length (now out)) ⌝ }
-    requires { ⌜ Cuts (now section) (now demands) (now decided) × Numbered (now section) (countIn (now section)) (now counts) ⌝ }
+    requires { ⌜ Cuts (now section) (now demands) (now decided) × Reserved (now section) (now demands) (now decided) rows (now next) ⌝ }
     ensures { λ _. ⌜ AllAssigned (now (section .entry)) (now (demands .entry)) (now (out .entry)) (now (out .exit)) ⌝ }
 {
-    let mut next = [0u32; sides::PLACES];
-    let n = sides::spots(demands.len(), decided, counts, &mut next);
     let most = next[Agent::MOST];
     let mut keys = [0u64; Contract::MOST];
-    sides::part(section, decided, &mut next, &mut keys, out);
-    assign_cut(section, &mut keys[..n], most, decided, demands, out);
+    sides::part(section, decided, next, &mut keys, out);
+    assign_cut(section, &mut keys[..rows], most, decided, demands, out);
 }
 
-// Rows that nothing is wrong with, from what the sides hold.
-fn assign_all(section: &[u8], totals: &mut [u32], counts: &[u32], demands: &[u32], out: &mut [u32])
-    requires { ⌜ Ready (dealsIn (now section)) (now demands) × (countIn (now section) ≤ length (now out)) ⌝ }
-    requires { ⌜ AddedUp (now section) (countIn (now section)) (now totals)
-        × Numbered (now section) (countIn (now section)) (now counts) ⌝ }
-    ensures { λ _. ⌜ AllAssigned (now (section .entry)) (now (demands .entry)) (now (out .entry)) (now (out .exit)) ⌝ }
+// What is found of a section: whether it can be assigned, and if so whether any side is cut, and how many rows the cut sides have.
+struct Plan {
+    verdict: Verdict,
+    some: bool,
+    rows: usize,
+}
+
+// Judges the rows and decides which sides are cut; where any is, each buyer has its places. The counts are gone when it is done.
+fn survey(
+    section: &[u8],
+    demands: &[u32],
+    out: &[u32],
+    totals: &mut [u32],
+    next: &mut [u32],
+) -> Plan
+    requires { ⌜ AddedUp (now section) 0 (now totals) × (length (now next) ≡ mostAgents + 1) ⌝ }
+    ensures { λ r. ⌜ Planned (now (section .entry)) (now (demands .entry)) (now (out .entry)) r (now (totals .exit)) (now (next .exit)) ⌝ }
 {
+    let mut counts = [0u32; sides::COUNTS];
+    let verdict = judge(section, demands, out, totals, &mut counts);
+    let Verdict::Fine = verdict else {
+        return Plan {
+            verdict,
+            some: false,
+            rows: 0,
+        };
+    };
     if sides::decide(demands, totals) {
-        assign_some(section, totals, counts, demands, out);
-        return;
+        let rows = sides::spots(demands.len(), totals, &counts, next);
+        return Plan {
+            verdict,
+            some: true,
+            rows,
+        };
     }
-    sides::in_full(section, out);
+    Plan {
+        verdict,
+        some: false,
+        rows: 0,
+    }
 }
 
 // What each contract of a section of rows gets; `demands` has the commercial demand of each agent.
@@ -198,11 +232,16 @@ pub fn assign(section: &[u8], demands: &[u32], out: &mut [u32]) -> Verdict
     ensures { λ r. ⌜ Assigned (now (section .entry)) (now (demands .entry)) (now (out .entry)) r (now (out .exit)) ⌝ }
 {
     let mut totals = [0u32; sides::CELLS];
-    let mut counts = [0u32; sides::COUNTS];
-    let v = judge(section, demands, out, &mut totals, &mut counts);
-    let Verdict::Fine = v else {
-        return v;
+    let mut next = [0u32; sides::PLACES];
+    let p = survey(section, demands, out, &mut totals, &mut next);
+    let verdict = p.verdict;
+    let Verdict::Fine = verdict else {
+        return verdict;
     };
-    assign_all(section, &mut totals, &counts, demands, out);
+    if p.some {
+        assign_some(section, &totals, &mut next, p.rows, demands, out);
+        return Verdict::Fine;
+    }
+    sides::in_full(section, out);
     Verdict::Fine
 }

@@ -1,29 +1,24 @@
 -- What the code puts together is the answer: the row asked for is the sheet's, with its schedule or amount. Assumes nothing.
 use Prim.Native.Nat.{ℕ, _≤_, _<_}
 use native.Mathlib.Omega.{arith}
-use mathlib.Core.List.{List, [], _∷_}
-use mathlib.Core.Path.{_≡_, refl, ap, _∙_, sym}
+use mathlib.Core.List.{List}
+use mathlib.Core.Path.{_≡_, ap, _∙_, sym}
 use Rattle.sums.specs.Lists.{at}
 use Rattle.refusals.specs.Refusals.{notThere, refusal}
 use Rattle.refusals.specs.declared.Refusal.{Refusal}
 use Rattle.refusals.specs.declared.Verdict.{Verdict}
 use Rattle.limits.specs.declared.Plant.{Plant}
 use Rattle.limits.specs.declared.Contract.{Contract}
-use Rattle.refusals.proofs.Fine.{AllFine, fine-parts}
-use Rattle.sheet.specs.Reading.{readVerdict, readOf}
+use Rattle.sheet.specs.Reading.{readOf}
 use Rattle.sheet.specs.Asking.{plantAt, contractAt}
 use Rattle.sheet.specs.declared.Counts.{Counts}
 use Rattle.sheet.specs.declared.Reading.{Reading}
-use Rattle.sheet.proofs.Accepted.{accepted-counts}
 use Rattle.columns.specs.Columns.{columnsOf, hourOf, sheetVerdict}
 use Rattle.columns.proofs.Columns.{agents-long, plants-long, contracts-long, must-at}
 use Rattle.columns.proofs.Columns.{offer-at, available-at, buyer-at, price-at, quantity-at}
-use Rattle.balance.specs.Balances.{weighVerdict, Weighed}
-use Rattle.balance.specs.declared.Balance.{Balance}
 use Rattle.hour.specs.Sheet.{agents, plants, contracts}
 use Rattle.hour.specs.Balance.{commercial}
 use Rattle.hour.specs.Lines.{scheduled, bolsaPrice, amount}
-use Rattle.hour.specs.Answer.{balanceVerdict, coverVerdict}
 use Rattle.hour.specs.declared.Summary.{Summary}
 use Rattle.reasons.specs.Reasons.{plantReasonBy, plantReason, plantCase, contractReason}
 use Rattle.reasons.specs.Reasons.{contractCase, plantWhy, contractWhy}
@@ -34,7 +29,7 @@ use Rattle.reasons.specs.declared.PlantWhy.{PlantWhy}
 use Rattle.reasons.specs.declared.ContractReason.{ContractReason}
 use Rattle.reasons.specs.declared.ContractCase.{ContractCase}
 use Rattle.reasons.specs.declared.ContractWhy.{ContractWhy}
-use Rattle.reasons.proofs.Asked.{why-refused, why-unread, why-absent, why-there}
+use Rattle.reasons.proofs.Asked.{hour-is, why-refused, why-unread, why-absent, why-there}
 use Rattle.reasons.proofs.Owned.{reason-is}
 
 -- ---- turned away
@@ -74,15 +69,14 @@ same-deal w w′ q q′ x x′ p p′ h1 h2 h3 h4 = rw (h1, h2, h3, h4)
 -- ---- of an accepted sheet that nothing turns away
 module _ (bytes : List ℕ) (c : Counts) (e : readOf bytes ≡ Reading.Accepted c)
     (fine : sheetVerdict bytes ≡ Verdict.Fine) (i : ℕ) where
-  hour-is : hourOf bytes ≡ columnsOf bytes c
-  unfolding hourOf
-  hour-is = ap (columnsOf bytes) (sym (accepted-counts bytes c e))
+  hour : hourOf bytes ≡ columnsOf bytes c
+  hour = hour-is bytes c e
 
   plant-count : plants (hourOf bytes) ≡ c .plants
-  plant-count = rw hour-is (plants-long bytes c)
+  plant-count = rw hour (plants-long bytes c)
 
   contract-count : contracts (hourOf bytes) ≡ c .contracts
-  contract-count = rw hour-is (contracts-long bytes c)
+  contract-count = rw hour (contracts-long bytes c)
 
   pub plant-absent : c .plants ≤ i → PlantWhy.Refused (refusal notThere i) ≡ plantWhy bytes i
   unfolding plantWhy
@@ -98,8 +92,8 @@ module _ (bytes : List ℕ) (c : Counts) (e : readOf bytes ≡ Reading.Accepted 
   pub contract-there : i < c .contracts → i < contracts (hourOf bytes)
   contract-there l = omega (arith, contract-count)
 
-  -- what the lists of the settlement hold of it
-  module _ (s s′ a a′ : List ℕ) (r : Summary) (w : HourSettled bytes s s′ a a′ r) where
+  -- what the lists of the settlement hold of it, and of a buyer
+  module _ (ds s s′ a a′ : List ℕ) (r : Summary) (w : HourSettled bytes ds s s′ a a′ r) where
     pub schedule-at : i < c .plants → at s′ i ≡ scheduled (hourOf bytes) i
     schedule-at l = w .schedule .done i (rw fine (plant-there l))
 
@@ -109,20 +103,11 @@ module _ (bytes : List ℕ) (c : Counts) (e : readOf bytes ≡ Reading.Accepted 
     pub price-told : r .price ≡ bolsaPrice (hourOf bytes)
     price-told = ap (λ (x : Summary). x .price) (rw fine at (w .answer))
 
-  -- and weighing of its buyer
-  pub demand-at : (b : Balance) (k : Contract) → Weighed bytes b → k .buyer < c .agents
-      → at (b .commercial) (k .buyer) ≡ commercial (hourOf bytes) (k .buyer)
-  unfolding sheetVerdict weighVerdict
-  demand-at b k w l = w .commercial .done (k .buyer) (rw weight (omega (arith, count)))
-    where
-      passed : AllFine (readVerdict bytes ∷ balanceVerdict (hourOf bytes) ∷ coverVerdict (hourOf bytes) ∷ [])
-      passed = fine-parts (readVerdict bytes ∷ balanceVerdict (hourOf bytes) ∷ coverVerdict (hourOf bytes) ∷ []) fine
-
-      weight : weighVerdict bytes ≡ Verdict.Fine
-      weight = rw (passed .0) (passed .1 .0)
-
-      count : agents (hourOf bytes) ≡ c .agents
-      count = rw hour-is (agents-long bytes c)
+    pub demand-at : (b : ℕ) → b < c .agents → at ds b ≡ commercial (hourOf bytes) b
+    demand-at b l = w .demands fine b (omega (arith, count))
+      where
+        count : agents (hourOf bytes) ≡ c .agents
+        count = rw hour (agents-long bytes c)
 
   -- a plant that is there, with its schedule q and the price x
   pub plant-told : (l : i < c .plants) (p : Plant) → p ≡ plantAt bytes c i
@@ -137,13 +122,13 @@ module _ (bytes : List ℕ) (c : Counts) (e : readOf bytes ≡ Reading.Accepted 
       (ew ∙ rw (eq, available, must)) eq available must offer ex))
     where
       available : p .availability ≡ at (hourOf bytes .available) i
-      available = rw (ep, hour-is) (sym (available-at bytes c i l))
+      available = rw (ep, hour) (sym (available-at bytes c i l))
 
       must : p .must ≡ at (hourOf bytes .mustRun) i
-      must = rw (ep, hour-is) (sym (must-at bytes c i l))
+      must = rw (ep, hour) (sym (must-at bytes c i l))
 
       offer : p .price ≡ at (hourOf bytes .offers) i
-      offer = rw (ep, hour-is) (sym (offer-at bytes c i l))
+      offer = rw (ep, hour) (sym (offer-at bytes c i l))
 
   -- a contract that is there, with its amount x and its buyer's demand d
   pub contract-told : (l : i < c .contracts) (k : Contract) → k ≡ contractAt bytes c i
@@ -156,13 +141,13 @@ module _ (bytes : List ℕ) (c : Counts) (e : readOf bytes ≡ Reading.Accepted 
       (ap ContractWhy.Because (same-deal w _ (k .quantity) _ x _ (k .price) _ (ew ∙ reason) quantity ex price))
     where
       quantity : k .quantity ≡ at (hourOf bytes .deals .quantities) i
-      quantity = rw (ek, hour-is) (sym (quantity-at bytes c i l))
+      quantity = rw (ek, hour) (sym (quantity-at bytes c i l))
 
       price : k .price ≡ at (hourOf bytes .deals .prices) i
-      price = rw (ek, hour-is) (sym (price-at bytes c i l))
+      price = rw (ek, hour) (sym (price-at bytes c i l))
 
       buyer : k .buyer ≡ at (columnsOf bytes c .deals .buyers) i
       buyer = rw ek (sym (buyer-at bytes c i l))
 
       reason : reasonIn bytes c k i d ≡ contractReason (hourOf bytes) i
-      reason = rw (ek, ed, buyer, hour-is) (reason-is bytes c e i l _)
+      reason = rw (ek, ed, buyer, hour) (reason-is bytes c e i l _)

@@ -1,17 +1,19 @@
 -- How the code goes about it: the hour settled with lists of its own, and the passes over the contract rows. Assumes nothing.
-use Prim.Native.Nat.{ℕ, _-_}
+use Prim.Native.Nat.{ℕ, _-_, _<_}
 use mathlib.Core.Bool.{Bool, _&&_, cond}
 use mathlib.Core.List.{List}
 use mathlib.Core.Path.{_≡_}
 use lib.Dec.{ltb, eqb}
 use Rattle.sums.specs.Sums.{sum, pick}
-use Rattle.sums.specs.Lists.{Filled}
+use Rattle.sums.specs.Lists.{at, Filled}
 use Rattle.refusals.specs.Refusals.{cells}
+use Rattle.refusals.specs.declared.Verdict.{Verdict}
 use Rattle.limits.specs.declared.Contract.{Contract}
 use Rattle.sheet.specs.Asking.{contractAt}
 use Rattle.sheet.specs.declared.Counts.{Counts}
 use Rattle.deals.specs.Deals.{fixed, conditional, demanded, stands}
-use Rattle.hour.specs.Sheet.{plants, contracts}
+use Rattle.hour.specs.Sheet.{agents, plants, contracts}
+use Rattle.hour.specs.Balance.{commercial}
 use Rattle.hour.specs.Lines.{scheduled, amount}
 use Rattle.hour.specs.Answer.{summaryOf}
 use Rattle.hour.specs.declared.Summary.{Summary}
@@ -20,9 +22,10 @@ use Rattle.reasons.specs.Reasons.{conditionalReason, demandedReason}
 use Rattle.reasons.specs.declared.passes.Part.{Part}
 use Rattle.reasons.specs.declared.ContractReason.{ContractReason}
 
--- the hour settled: its summary, and what its lists hold, s of the schedule and a of the amounts before it
-pub record HourSettled (bytes s s′ a a′ : List ℕ) (r : Summary) : Type 0 where
+-- the hour settled: its summary, and what its lists hold, ds of the commercial demands, s of the schedule and a of the amounts before it
+pub record HourSettled (bytes ds s s′ a a′ : List ℕ) (r : Summary) : Type 0 where
   pub answer : r ≡ summaryOf (sheetVerdict bytes) (hourOf bytes)
+  pub demands : sheetVerdict bytes ≡ Verdict.Fine → (b : ℕ) → b < agents (hourOf bytes) → at ds b ≡ commercial (hourOf bytes) b
   pub schedule : Filled 0 s s′ (cells (sheetVerdict bytes) (plants (hourOf bytes))) (scheduled (hourOf bytes))
   pub amounts : Filled 0 a a′ (cells (sheetVerdict bytes) (contracts (hourOf bytes))) (amount (hourOf bytes))
 

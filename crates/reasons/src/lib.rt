@@ -7,12 +7,14 @@ ghost use Rattle.limits.specs.Limits.{mostPlants, mostContracts};
 ghost use Rattle.sheet.specs.Reading.{readOf};
 ghost use Rattle.sheet.specs.declared.Reading.{Reading};
 ghost use Rattle.reasons.specs.Reasons.{plantReasonNumber, contractReasonNumber, plantReasonBy, plantWhy, contractWhy};
+ghost use Rattle.balance.specs.Balances.{zeros};
 ghost use Rattle.reasons.specs.Parts.{HourSettled};
 use hour::Summary;
 use limits::Agent;
 use limits::Contract;
 use limits::Plant;
 use refusals::Refusal;
+use refusals::Verdict;
 use sheet::Counts;
 use sheet::Reading;
 
@@ -132,16 +134,52 @@ fn judge_plant(scheduled: u32, must: u32, available: u32) -> PlantReason
     PlantReason::Beyond
 }
 
-// Settles an accepted sheet with lists of our own, which have room for every sheet: schedule and amounts are kept.
-fn settle_hour(bytes: &[u8], c: Counts, schedule: &mut [u32], amounts: &mut [u32]) -> Summary
+// Weighs an accepted sheet and trades with lists of our own, which have room for every sheet; no agent's line is asked for. Schedule,
+// amounts and the agents' commercial demands are kept: trading has a copy of these.
+fn settle_hour(
+    bytes: &[u8],
+    c: Counts,
+    commercial: &mut [u32; Agent::MOST],
+    schedule: &mut [u32],
+    amounts: &mut [u32],
+) -> Summary
     requires { ⌜ readOf (now bytes) ≡ Reading.Accepted c ⌝ }
-    requires { ⌜ (mostPlants ≤ length (now schedule)) × (mostContracts ≤ length (now amounts)) ⌝ }
-    ensures { λ r. ⌜ HourSettled (now (bytes .entry)) (now (schedule .entry)) (now (schedule .exit)) (now (amounts .entry))
-        (now (amounts .exit)) r ⌝ }
+    requires { ⌜ (now commercial ≡ zeros) × (mostPlants ≤ length (now schedule)) × (mostContracts ≤ length (now amounts)) ⌝ }
+    ensures { λ r. ⌜ HourSettled (now (bytes .entry)) (now (commercial .exit)) (now (schedule .entry)) (now (schedule .exit))
+        (now (amounts .entry)) (now (amounts .exit)) r ⌝ }
 {
-    let mut figures = [0u32; Agent::CELLS * Agent::MOST];
-    let mut money = [0i64; Agent::MOST];
-    settle::settle_read(bytes, c, &mut figures, &mut money, schedule, amounts)
+    let figures = [0u32; Agent::CELLS * Agent::MOST];
+    let money = [0i64; Agent::MOST];
+    let mut kinds = [0u32; Agent::MOST];
+    let mut shares = [0u32; Agent::MOST];
+    let mut own = [0u32; Agent::MOST];
+    let mut imports = [0u32; Agent::MOST];
+    let w = ground::admit(
+        bytes,
+        c,
+        &mut kinds,
+        &mut shares,
+        commercial,
+        &mut own,
+        &mut imports,
+        &figures,
+        &money,
+        schedule,
+        amounts,
+    );
+    let verdict = w.verdict;
+    if let Verdict::Refused(r) = verdict {
+        return settle::turned_away(r);
+    }
+    let mut column = *commercial;
+    let price = settle::trade(bytes, c, &mut column, w.target, &mut own, schedule, amounts);
+    Summary {
+        number: 0,
+        place: 0,
+        price,
+        demand: w.demand,
+        losses: w.losses,
+    }
 }
 
 // Of an accepted sheet.
@@ -151,7 +189,8 @@ fn why_plant_read(bytes: &[u8], c: Counts, plant: u32) -> PlantWhy
 {
     let mut schedule = [0u32; Plant::MOST];
     let mut amounts = [0u32; Contract::MOST];
-    let hour = settle_hour(bytes, c, &mut schedule, &mut amounts);
+    let mut commercial = [0u32; Agent::MOST];
+    let hour = settle_hour(bytes, c, &mut commercial, &mut schedule, &mut amounts);
     if hour.number != 0 {
         return PlantWhy::Refused(Refusal {
             number: hour.number,
@@ -193,7 +232,8 @@ fn why_contract_read(bytes: &[u8], c: Counts, contract: u32) -> ContractWhy
 {
     let mut schedule = [0u32; Plant::MOST];
     let mut amounts = [0u32; Contract::MOST];
-    let hour = settle_hour(bytes, c, &mut schedule, &mut amounts);
+    let mut commercial = [0u32; Agent::MOST];
+    let hour = settle_hour(bytes, c, &mut commercial, &mut schedule, &mut amounts);
     if hour.number != 0 {
         return ContractWhy::Refused(Refusal {
             number: hour.number,
@@ -208,9 +248,8 @@ fn why_contract_read(bytes: &[u8], c: Counts, contract: u32) -> ContractWhy
         });
     }
     let k = rows::contract_of(octets::row_at(bytes, c.agents + c.boundaries + c.plants + j));
-    let b = balance::weigh(bytes);
     ContractWhy::Because(ContractCase {
-        reason: passes::judge(bytes, c, k, j, b.commercial[k.buyer as usize]),
+        reason: passes::judge(bytes, c, k, j, commercial[k.buyer as usize]),
         quantity: k.quantity,
         amount: amounts[j],
         price: k.price,

@@ -3,7 +3,7 @@ use Prim.Native.Nat.{ℕ, _≤_}
 use mathlib.Core.List.{List}
 use mathlib.Core.Path.{_≡_, _∙_, sym}
 use lib.IntN.{pos}
-use lib.ListN.{take}
+use lib.ListN.{length, take}
 use Rattle.sums.specs.Lists.{at, Filled}
 use Rattle.sums.proofs.Fill.{filled-none, filled-count, filled-front, filled-unique}
 use Rattle.refusals.specs.Refusals.{cells}
@@ -19,8 +19,10 @@ use Rattle.hour.specs.Sheet.{Sheet, agents}
 use Rattle.hour.specs.Balance.{commercial, demands}
 use Rattle.hour.specs.Answer.{Lent, lent}
 use Rattle.hour.specs.declared.Summary.{Summary}
-use Rattle.balance.specs.Balances.{zeros}
-use Rattle.settle.specs.Parts.{turnedAway}
+use Rattle.balance.specs.Balances.{zeros, Ledger}
+use Rattle.balance.specs.declared.Weight.{Weight}
+use Rattle.ground.proofs.Admitted.{Open}
+use Rattle.settle.specs.Parts.{Covered, Demanding, turnedAway}
 use Rattle.settle.specs.Settled.{verdictOf, Outcome, Settles, Settled}
 
 -- ---- from reading to the bytes
@@ -38,13 +40,35 @@ pub refused-read : (bytes : List ℕ) (l : Lent) (q : Refusal) → readOf bytes 
 unfolding verdictOf
 refused-read bytes l q e = let v : readVerdict bytes ≡ Verdict.Refused q = refused-verdict bytes q e in rw v
 
-pub demands-are : (h : Sheet) (n : ℕ) (l : List ℕ)
+demands-are : (h : Sheet) (n : ℕ) (l : List ℕ)
     → agents h ≡ n
     → n ≤ mostAgents
     → Filled 0 zeros l n (commercial h)
     → take n l ≡ demands h
 unfolding demands
 demands-are h n l e few f = rw e (filled-front 0 zeros l n (commercial h) few f)
+
+-- ---- of an hour that nothing turns away, with columns that were 0 before: what trading asks for
+module _ (h : Sheet) (l : Lent) (before after : Ledger) (w : Weight) (o : Open h l before after w) where
+  pub covered-hour : before .own ≡ zeros → Covered h (w .target) (length (l .schedule)) (after .own)
+  covered-hour e =
+      record {
+        balance = o .balance;
+        target = o .target;
+        enough = o .cover .enough;
+        runs = o .cover .runs;
+        fits = o .room .schedule;
+        own = rw e at (o .columns .own);
+      }
+
+  pub demanded-hour : (n : ℕ)
+      → agents h ≡ n
+      → n ≤ mostAgents
+      → before .commercial ≡ zeros
+      → Demanding h (take n (after .commercial)) (length (l .amounts))
+  demanded-hour n k few e =
+      let f = rw e at (o .columns .commercial) in
+      record { demands = demands-are h n _ k few (filled-count 0 _ _ _ _ _ k f); fits = o .room .amounts }
 
 -- ---- a refusal
 pub turned-away : (v : Verdict) (h : Sheet) (l : Lent) (r : Refusal)

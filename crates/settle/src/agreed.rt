@@ -2,7 +2,8 @@
 use limits::Contract;
 use sheet::Counts;
 ghost use mathlib.Core.Path.{_≡_};
-ghost use lib.ListN.{length};
+ghost use lib.ListN.{length, take};
+ghost use Rattle.limits.specs.Limits.{mostAgents};
 ghost use Rattle.sheet.specs.Reading.{readOf};
 ghost use Rattle.sheet.specs.declared.Reading.{Reading};
 ghost use Rattle.columns.specs.Columns.{columnsOf};
@@ -27,23 +28,33 @@ fn hold(section: &[u8], amounts: &[u32], held: &mut [u32])
     }
 }
 
-// The amounts of all contracts into the lent list, and what each agent holds under contract. Where there are none no scratch is cleared.
-pub(crate) fn agree(
-    bytes: &[u8],
-    c: Counts,
-    demands: &[u32],
-    amounts: &mut [u32],
-    contracted: &mut [u32],
-)
+// A column that is to be added to.
+fn clear(column: &mut [u32])
+    requires { ⌜ length (now column) ≡ mostAgents ⌝ }
+    ensures { λ _. ⌜ now (column .exit) ≡ zeros ⌝ }
+{
+    let mut a = 0;
+    while a < column.len() {
+        column[a] = 0;
+        a += 1;
+    }
+}
+
+// The amounts of all contracts into the lent list. The column has the commercial demands, which make room for what each agent holds under
+// contract. Where there are no contracts no scratch is cleared for them.
+pub(crate) fn agree(bytes: &[u8], c: Counts, column: &mut [u32], amounts: &mut [u32])
     requires { ⌜ readOf (now bytes) ≡ Reading.Accepted c ⌝ }
-    requires { ⌜ Demanding (columnsOf (now bytes) c) (now demands) (length (now amounts)) × (now contracted ≡ zeros) ⌝ }
-    ensures { λ _. ⌜ Agrees (columnsOf (now (bytes .entry)) c) (now (contracted .exit))
+    requires { ⌜ (length (now column) ≡ mostAgents)
+        × Demanding (columnsOf (now bytes) c) (take (c .agents) (now column)) (length (now amounts)) ⌝ }
+    ensures { λ _. ⌜ Agrees (columnsOf (now (bytes .entry)) c) (now (column .exit))
         (now (amounts .entry)) (now (amounts .exit)) ⌝ }
 {
     if c.contracts == 0 {
+        clear(column);
         return;
     }
     let section = sheet::asking::section_of(bytes, c, Contract::SECTION);
-    contracts::assign(section, demands, amounts);
-    hold(section, amounts, contracted);
+    contracts::assign(section, &column[..c.agents], amounts);
+    clear(column);
+    hold(section, amounts, column);
 }

@@ -12,16 +12,17 @@ mod plants;
 mod tally;
 
 ghost use mathlib.Core.Path.{_≡_};
-ghost use lib.ListN.{length};
+ghost use lib.ListN.{length, take};
 ghost use Rattle.sheet.specs.Reading.{readOf};
 ghost use Rattle.sheet.specs.declared.Reading.{Reading};
 ghost use Rattle.columns.specs.Columns.{columnsOf};
-ghost use Rattle.balance.specs.Balances.{zeros};
+ghost use Rattle.limits.specs.Limits.{mostAgents};
 ghost use Rattle.settle.specs.Parts.{Covered, Demanding, Trades, turnedAway};
 ghost use Rattle.hour.specs.Answer.{lent};
 ghost use Rattle.settle.specs.Settled.{Settled};
 
-fn turned_away(r: Refusal) -> Summary
+// The summary of a refusal.
+pub fn turned_away(r: Refusal) -> Summary
     ensures { λ s. ⌜ s ≡ turnedAway r ⌝ }
 {
     Summary {
@@ -33,25 +34,26 @@ fn turned_away(r: Refusal) -> Summary
     }
 }
 
-// Amounts and schedule into the lent lists, what each agent holds under contract and its own energy into its columns: own energy has
-// to begin with what no schedule gives. The bolsa price is handed back.
-fn trade(
+// Amounts and schedule into the lent lists. What each agent holds under contract takes the place of its commercial demand, and its own
+// energy that of what no schedule gives. The bolsa price is handed back. Settling calls it, and so does who asks for a reason; since
+// there are two of them the compiler makes a frame for it, which is not there yet while a sheet is weighed.
+pub fn trade(
     bytes: &[u8],
     c: Counts,
-    demands: &[u32],
+    commercial: &mut [u32],
     target: u32,
     own: &mut [u32],
-    contracted: &mut [u32],
     schedule: &mut [u32],
     amounts: &mut [u32],
 ) -> u32
     requires { ⌜ readOf (now bytes) ≡ Reading.Accepted c ⌝ }
     requires { ⌜ Covered (columnsOf (now bytes) c) target (length (now schedule)) (now own) ⌝ }
-    requires { ⌜ Demanding (columnsOf (now bytes) c) (now demands) (length (now amounts)) × (now contracted ≡ zeros) ⌝ }
-    ensures { λ r. ⌜ Trades (columnsOf (now (bytes .entry)) c) r (now (own .exit)) (now (contracted .exit))
+    requires { ⌜ (length (now commercial) ≡ mostAgents)
+        × Demanding (columnsOf (now bytes) c) (take (c .agents) (now commercial)) (length (now amounts)) ⌝ }
+    ensures { λ r. ⌜ Trades (columnsOf (now (bytes .entry)) c) r (now (own .exit)) (now (commercial .exit))
         (now (schedule .entry)) (now (schedule .exit)) (now (amounts .entry)) (now (amounts .exit)) ⌝ }
 {
-    agreed::agree(bytes, c, demands, amounts, contracted);
+    agreed::agree(bytes, c, commercial, amounts);
     plants::generate(bytes, c, target, schedule, own)
 }
 
@@ -93,14 +95,13 @@ pub fn settle_read(
     if let Verdict::Refused(r) = verdict {
         return turned_away(r);
     }
-    let mut contracted = [0u32; Agent::MOST];
+    // from here on the commercial demands' column has what is held under contract
     let price = trade(
         bytes,
         c,
-        &commercial[..n],
+        &mut commercial,
         w.target,
         &mut own,
-        &mut contracted,
         schedule,
         amounts,
     );
@@ -109,7 +110,7 @@ pub fn settle_read(
         &shares,
         &own,
         &imports,
-        &contracted,
+        &commercial,
         n,
         price,
         figures,

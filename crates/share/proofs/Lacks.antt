@@ -381,6 +381,42 @@ bracket-start a ws t left d e sh =
       enough = λ i l m. absurd (omega (arith, sh .is));
     }
 
+-- nothing is left over: the crossing is anywhere
+pub bracket-none : (a : ℕ) (ws : List ℕ) (high d : ℕ) → d ≡ 0 → Bracket (lackOf a ws) one (length ws) d 0 high 0
+bracket-none a ws high d e =
+    record { reached = omega (arith, below-zero (lackOf a ws) one (length ws)); enough = λ i l m. omega arith }
+
+weights-some : (ws : List ℕ) → 0 < total ws → 0 < length ws
+unfolding total sum
+weights-some [] h = absurd (omega arith)
+weights-some (w ∷ ws) h = omega arith
+
+-- every weight lacks something, so that a span that ends at 0 is one of nothing
+pub bracket-end : (a : ℕ) (ws : List ℕ) (low high left d : ℕ)
+    → 0 < total ws
+    → Bracket (lackOf a ws) one (length ws) d low high left
+    → high ≡ 0
+    → d ≡ 0
+bracket-end a ws low high left d pos b e = go (decLt 0 d)
+  where
+    enough : (i : ℕ) → i < length ws → d ≤ heldBelow (lackOf a ws) one (length ws) (lackOf a ws i)
+    enough i l = b .enough i l (omega (arith, remainder-lt a ws pos i))
+
+    none : 0 < d → (x : ℕ) → heldBelow (lackOf a ws) one (length ws) x ≡ 0
+    none h zero = below-zero (lackOf a ws) one (length ws)
+    none h (suc x) =
+        omega (
+          arith,
+          none h x,
+          below-suc (lackOf a ws) one (length ws) x,
+          keyed-absent (lackOf a ws) one (length ws) x
+              (λ j l z. omega (arith, enough j l, none h x, ap (heldBelow (lackOf a ws) one (length ws)) z)),
+        )
+
+    go : Dec (0 < d) → d ≡ 0
+    go (yes h) = omega (arith, enough 0 (weights-some ws pos), none h (lackOf a ws 0))
+    go (no h) = omega arith
+
 -- nothing is left over: the floors are the shares
 pub no-left : (a : ℕ) (ws before after : List ℕ)
     → 0 < total ws

@@ -11,7 +11,7 @@ ghost use Rattle.sums.specs.Lists.{at, total, Filled};
 ghost use Rattle.crossing.specs.Crossing.{Bracket, taken};
 ghost use Rattle.share.specs.Share.{mostWeights, leftOver, shareOf, Shared};
 ghost use Rattle.share.specs.Lacks.{mostTotal, Sharing, wholeRate, Rate, Floored, FloorsHeld, lackOf, one, Lesser, NextLack};
-ghost use Rattle.share.specs.Lacks.{Narrowed, Noted, Cleared, Classed, Levelled, Chosen, Closed};
+ghost use Rattle.share.specs.Lacks.{Narrowed, Noted, Cleared, Classed, Levelled, Chosen, FirstSpan, Closed};
 
 // More weights than this are refused.
 const MOST_WEIGHTS: usize = 256;
@@ -456,19 +456,24 @@ fn fill(amount: u32, weights: &[u32], out: &mut [u32])
     fill_some(amount, weights, t, out);
 }
 
-// The shares of a total above 0.
-fn fill_some(amount: u32, weights: &[u32], t: u64, out: &mut [u32])
+// The floors stand in `out` afterwards; handed back is a first span in which the kWh left over cross, or one that ends at 0 where
+// none is left over. Its counts are gone before the span is narrowed, which takes counts of its own.
+fn begin(amount: u32, weights: &[u32], t: u64, out: &mut [u32]) -> Span
     requires { ⌜ Sharing (now weights) t × (length (now weights) ≤ length (now out)) ⌝ }
-    ensures { λ _. ⌜ Filled 0 (now (out .entry)) (now (out .exit)) (length (now (weights .entry)))
-        (shareOf amount (now (weights .entry))) ⌝ }
+    ensures { λ r. ⌜ FirstSpan amount (now (weights .entry)) (now (out .entry)) (r .low) (r .high) (r .left) (now (out .exit)) ⌝ }
 {
     let s = first_shift(weights.len(), t);
     let mut counts = [0u32; 64];
     let left = floors(amount, weights, t, s, out, &mut counts);
     if left == 0 {
-        return;
+        return Span {
+            low: 0,
+            high: 0,
+            left: 0,
+            held: 0,
+        };
     }
-    let first = choose(
+    choose(
         &counts,
         s,
         Span {
@@ -477,7 +482,19 @@ fn fill_some(amount: u32, weights: &[u32], t: u64, out: &mut [u32])
             left,
             held: 0,
         },
-    );
+    )
+}
+
+// The shares of a total above 0.
+fn fill_some(amount: u32, weights: &[u32], t: u64, out: &mut [u32])
+    requires { ⌜ Sharing (now weights) t × (length (now weights) ≤ length (now out)) ⌝ }
+    ensures { λ _. ⌜ Filled 0 (now (out .entry)) (now (out .exit)) (length (now (weights .entry)))
+        (shareOf amount (now (weights .entry))) ⌝ }
+{
+    let first = begin(amount, weights, t, out);
+    if first.high == 0 {
+        return;
+    }
     spread(amount, weights, t, first, out);
 }
 

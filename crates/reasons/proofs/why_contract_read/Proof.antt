@@ -5,6 +5,7 @@ use borrow.Author.Needs.{needs}
 use denote.Ref.{now}
 use Rattle.refusals.specs.declared.Verdict.{Verdict}
 use Rattle.rows.specs.Rows.{contractOf}
+use Rattle.limits.specs.Limits.{mostAgents}
 use Rattle.limits.specs.declared.Contract.{Contract}
 use Rattle.octets.specs.declared.Words.{Words}
 use Rattle.sheet.specs.Asking.{contractAt}
@@ -17,7 +18,7 @@ use Rattle.reasons.proofs.why_contract_read.Tie as tie
 
 -- ways back: X-to-Y leads from the place X of the code to the earlier place Y
 abbrev settle-hour-to-start : tie.After-settle-hour → tie.Start
-settle-hour-to-start c = c .before .before .before .before
+settle-hour-to-start c = c .before .before .before .before .before
 
 abbrev else1-to-settle-hour : tie.Else1 → tie.After-settle-hour
 else1-to-settle-hour c = c .before .before .before .before
@@ -32,7 +33,7 @@ abbrev contract-of-to-else2 : tie.After-contract-of → tie.Else2
 contract-of-to-else2 c = c .before .before .before .before
 
 abbrev judge-to-contract-of : tie.After-judge → tie.After-contract-of
-judge-to-contract-of c = c .before .before .before .before
+judge-to-contract-of c = c .before .before
 
 -- behind the first test nothing turns the sheet away
 fine : (c : tie.Else1) → sheetVerdict (now (settle-hour-to-start (else1-to-settle-hour c) .args .bytes)) ≡ Verdict.Fine
@@ -87,13 +88,18 @@ add-row-at-2 c = omega (arith, accepted-few _ _ (else2-to-start (c .before .befo
 add-row-at-3 : tie.Need-add-row-at-3
 add-row-at-3 c = omega (arith, accepted-few _ _ (else2-to-start (c .before .before) .pre), within (c .before .before))
 
-element-copy-out-judge : tie.Need-element-copy-out-judge
-element-copy-out-judge c =
-    let at-row = c .before .before in
-    omega (arith, buyer at-row, accepted-few _ _ (else2-to-start (contract-of-to-else2 at-row) .pre) .agents)
+-- its buyer has a demand
+demand-there : (c : tie.After-contract-of) → c .contract-of .result .buyer < mostAgents
+demand-there c = omega (arith, buyer c, accepted-few _ _ (else2-to-start (contract-of-to-else2 c) .pre) .agents)
+
+mul-judge : tie.Need-mul-judge
+mul-judge c = let w = demand-there (c .before) in omega (arith, w)
+
+array-read-judge : tie.Need-array-read-judge
+array-read-judge c = demand-there (c .before)
 
 judge-requires : tie.Need-judge-requires
-judge-requires c κs = else2-to-start (contract-of-to-else2 (c .before .before .before)) .pre
+judge-requires c κs = else2-to-start (contract-of-to-else2 (c .before)) .pre
 
 mul-t20 : tie.Need-mul-t20
 mul-t20 c = let w = within (contract-of-to-else2 (judge-to-contract-of c)) in omega (arith, w)
@@ -112,14 +118,13 @@ returns-3 c =
     let ok = fine at-else1 in
     contract-told (now (a .bytes)) (a .c) (at-start .pre) ok (a .contract) (there at-else2) (at-row .contract-of .result)
     (row at-row) _ _
-    (amount-at (now (a .bytes)) (a .c) (at-start .pre) ok (a .contract) _ _ _ _ (w .result) (w .ensures) (there at-else2))
-    (demand-at (now (a .bytes)) (a .c) (at-start .pre) ok (a .contract) (c .before .before .before .weigh .result)
-    (at-row .contract-of .result) (c .before .before .before .weigh .ensures) (buyer at-row))
+    (amount-at (now (a .bytes)) (a .c) (at-start .pre) ok (a .contract) _ _ _ _ _ (w .result) (w .ensures) (there at-else2))
+    (demand-at (now (a .bytes)) (a .c) (at-start .pre) ok (a .contract) _ _ _ _ _ (w .result) (w .ensures) _ (buyer at-row))
     (c .judge .result) (c .judge .ensures)
 
 pub why-contract-read-spec : {M : Type 1} → statement M
 why-contract-read-spec =
     tie.close
     (tie.spec (λ c. search needs) (λ c. search needs) (λ c κs. search needs) returns returns-2 add-row-at add-row-at-2
-    add-row-at-3 (λ c κs. search needs) (λ c κs. search needs) (λ c κs. search needs) (λ c. search needs)
-    (λ c. search needs) element-copy-out-judge judge-requires mul-t20 array-read-t28 returns-3)
+    add-row-at-3 (λ c κs. search needs) (λ c κs. search needs) (λ c. search needs) mul-judge array-read-judge judge-requires mul-t20
+    array-read-t28 returns-3)

@@ -15,7 +15,7 @@ use Rattle.reasons.proofs.why_plant_read.Tie as tie
 
 -- ways back: X-to-Y leads from the place X of the code to the earlier place Y
 abbrev settle-hour-to-start : tie.After-settle-hour → tie.Start
-settle-hour-to-start c = c .before .before .before .before
+settle-hour-to-start c = c .before .before .before .before .before
 
 abbrev else1-to-settle-hour : tie.Else1 → tie.After-settle-hour
 else1-to-settle-hour c = c .before .before .before .before
@@ -65,14 +65,17 @@ add-row-at c = omega (arith, accepted-few _ _ (else2-to-start (c .before) .pre))
 add-row-at-2 : tie.Need-add-row-at-2
 add-row-at-2 c = omega (arith, accepted-few _ _ (else2-to-start (c .before) .pre), within (c .before))
 
+mul-judge-plant : tie.Need-mul-judge-plant
+mul-judge-plant c = let w = within (c .before .before .before) in omega (arith, w)
+
 array-read-judge-plant : tie.Need-array-read-judge-plant
 array-read-judge-plant c = within (c .before .before .before)
 
-mul-t18 : tie.Need-mul-t18
-mul-t18 c = let w = within (judge-plant-to-else2 c) in omega (arith, w)
+mul-t20 : tie.Need-mul-t20
+mul-t20 c = let w = within (judge-plant-to-else2 c) in omega (arith, w)
 
-array-read-t25 : tie.Need-array-read-t25
-array-read-t25 c = within (judge-plant-to-else2 c)
+array-read-t27 : tie.Need-array-read-t27
+array-read-t27 c = within (judge-plant-to-else2 c)
 
 returns-3 : tie.Need-returns-3
 returns-3 c =
@@ -84,13 +87,13 @@ returns-3 c =
     let ok = fine at-else1 in
     let row = c .before .plant-of .ensures ∙ ap (λ (x : Words). plantOf x) (c .before .before .row-at .ensures) in
     plant-told (now (a .bytes)) (a .c) (at-start .pre) ok (a .plant) (there at-else2) (c .before .plant-of .result) row _ _
-    (schedule-at (now (a .bytes)) (a .c) (at-start .pre) ok (a .plant) _ _ _ _ (w .result) (w .ensures) (there at-else2))
-    (price-told (now (a .bytes)) (a .c) (at-start .pre) ok (a .plant) _ _ _ _ (w .result) (w .ensures))
+    (schedule-at (now (a .bytes)) (a .c) (at-start .pre) ok (a .plant) _ _ _ _ _ (w .result) (w .ensures) (there at-else2))
+    (price-told (now (a .bytes)) (a .c) (at-start .pre) ok (a .plant) _ _ _ _ _ (w .result) (w .ensures))
     (c .judge-plant .result) (c .judge-plant .ensures)
 
 pub why-plant-read-spec : {M : Type 1} → statement M
 why-plant-read-spec =
     tie.close
     (tie.spec (λ c. search needs) (λ c. search needs) (λ c κs. search needs) returns returns-2 add-row-at add-row-at-2
-    (λ c κs. search needs) (λ c κs. search needs) (λ c. search needs) array-read-judge-plant (λ c κs. search needs)
-    mul-t18 array-read-t25 returns-3)
+    (λ c κs. search needs) (λ c κs. search needs) mul-judge-plant array-read-judge-plant (λ c κs. search needs)
+    mul-t20 array-read-t27 returns-3)

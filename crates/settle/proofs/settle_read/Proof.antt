@@ -7,8 +7,7 @@ use mathlib.Core.List.{List}
 use mathlib.Core.Path.{_≡_, refl, _∙_, sym}
 use Rattle.refusals.specs.declared.Verdict.{Verdict}
 use Rattle.limits.specs.Limits.{mostAgents}
-use Rattle.sums.specs.Lists.{at, Filled}
-use Rattle.sums.proofs.Fill.{filled-count, front-fits, front-long}
+use Rattle.sums.specs.Lists.{at}
 use Rattle.sheet.proofs.Accepted.{accepted-few}
 use Rattle.columns.specs.Columns.{columnsOf}
 use Rattle.columns.proofs.Columns.{agents-long, sound}
@@ -23,7 +22,7 @@ use Rattle.lines.specs.Lines.{buys}
 use Rattle.lines.proofs.Sheets.{figures-are, money-are, lines-fit}
 use Rattle.balance.specs.Balances.{zeros, Ledger, ledger}
 use Rattle.ground.proofs.Admitted.{Open, opened}
-use Rattle.settle.proofs.Judged.{demands-are, settled-read, turned-away}
+use Rattle.settle.proofs.Judged.{covered-hour, demanded-hour, settled-read, turned-away}
 use Rattle.settle.proofs.settle_read.Statement.{statement}
 use Rattle.settle.proofs.settle_read.Tie as tie
 
@@ -44,7 +43,7 @@ abbrev told-to-start : tie.After-enum-told → tie.Start
 told-to-start c = admit-to-start (told-to-admit c)
 
 abbrev arg2-to-told : tie.After-trade-arg2 → tie.After-enum-told
-arg2-to-told c = c .before .before .before .before .before
+arg2-to-told c = c .before .before .before .before
 
 abbrev trade-to-told : tie.After-trade → tie.After-enum-told
 trade-to-told c = arg2-to-told (c .before)
@@ -117,15 +116,8 @@ imports-are : (c : tie.After-enum-told) (a : ℕ)
     → at (columns (told-to-admit c) .imports) a ≡ ownImport (sheet (told-to-start c)) a
 imports-are c a l = clear c .columns .imports .done a (omega (arith, count (told-to-start c)))
 
-demanded : (c : tie.After-enum-told)
-    → Filled 0 zeros (columns (told-to-admit c) .commercial) (told-to-start c .args .c .agents) (commercial (sheet (told-to-start c)))
-demanded c = filled-count 0 _ _ _ _ _ (count (told-to-start c)) (clear c .columns .commercial)
-
-array-share-prefix-commercial : tie.Need-array-share-prefix-commercial
-array-share-prefix-commercial c = front-fits _ _ _ _ (demanded c) (few (told-to-start c))
-
 slice-aggregate-trade : tie.Need-slice-aggregate-trade
-slice-aggregate-trade c = sym (front-long _ _ _ _ (demanded (c .before)) (few (told-to-start (c .before))))
+slice-aggregate-trade c = sym (clear (c .before) .columns .commercial .long)
 
 slice-aggregate-trade-2 : tie.Need-slice-aggregate-trade-2
 slice-aggregate-trade-2 c = sym (clear (c .before .before) .columns .own .long)
@@ -133,19 +125,11 @@ slice-aggregate-trade-2 c = sym (clear (c .before .before) .columns .own .long)
 trade-requires : tie.Need-trade-requires
 trade-requires c κs =
     let t = arg2-to-told c in
-    let s = told-to-start t in
-    let o = clear t in (
+    let s = told-to-start t in (
       s .pre,
       (
-        record {
-          balance = o .balance;
-          target = o .target;
-          enough = o .cover .enough;
-          runs = o .cover .runs;
-          fits = o .room .schedule;
-          own = o .columns .own;
-        },
-        (record { demands = demands-are (sheet s) _ _ (count s) (few s) (demanded t); fits = o .room .amounts }, refl),
+        covered-hour _ _ _ _ _ (clear t) refl,
+        (clear t .columns .commercial .long, demanded-hour _ _ _ _ _ (clear t) _ (count s) (few s) refl),
       ),
     )
 
@@ -154,7 +138,7 @@ abbrev energy : tie.After-trade → List ℕ
 energy c = c .trade .last .1 .1 .1 .1 .0
 
 abbrev held : tie.After-trade → List ℕ
-held c = c .trade .last .1 .1 .1 .1 .1 .0
+held c = c .trade .last .1 .1 .0
 
 owns : (c : tie.After-trade) (a : ℕ)
     → a < trade-to-start c .args .c .agents
@@ -197,7 +181,7 @@ returns-2 c =
     let at-write-lines = c .before .before .before in
     let at-kinds2 = at-write-lines .before .before .before .before .before .before .before in
     let at-trade = at-kinds2 .before .before .before .before .before .before .before in
-    let at-told = at-trade .before .before .before .before .before .before in
+    let at-told = at-trade .before .before .before .before .before in
     let at-admit = at-told .before .before in
     let at-imports = at-admit .before .before .before .before .before in
     let at-kinds = at-imports .before .before .before .before in
@@ -227,7 +211,7 @@ pub settle-read-spec : {M : Type 1} → statement M
 settle-read-spec =
     tie.close
     (tie.spec (λ c κs. search needs) (λ c. search needs) (λ c κs. search needs) (λ c. search needs) (λ c. search needs)
-    (λ c. search needs) (λ c. search needs) returns (λ c. search needs) array-share-prefix-commercial
-    slice-aggregate-trade slice-aggregate-trade-2 (λ c. search needs)
+    (λ c. search needs) (λ c. search needs) returns (λ c. search needs)
+    slice-aggregate-trade slice-aggregate-trade-2
     trade-requires write-lines-requires
     (λ c. search needs) (λ c. search needs) (λ c. search needs) (λ c. search needs) returns-2)
