@@ -1,4 +1,4 @@
--- A buyer's own rows are no more than a sheet may have, and of the kinds that there are: what is counted over them is counted over the
+-- A buyer's own rows are no more than a sheet may have, and of no kind below the first: what is counted over them is counted over the
 -- sheet. Assumes nothing.
 use Prim.Native.Nat.{ℕ, _≤_, _<_}
 use native.Mathlib.Omega.{arith}
@@ -6,14 +6,13 @@ use native.Mathlib.Decide.{decLt}
 use mathlib.Core.List.{List}
 use mathlib.Core.Path.{_≡_, _∙_}
 use lib.Dec.{ltb, eqb}
-use lib.ListN.{length}
 use Rattle.sums.specs.Sums.{sum, pick}
 use Rattle.sums.specs.Lists.{at}
 use Rattle.sums.proofs.Sums.{sum-zero, sum-term}
 use Rattle.sums.proofs.Cut.{sum-few}
 use Rattle.sums.proofs.Picks.{pick-le, pick-lt, pick-ge, pick-zero}
 use Rattle.limits.specs.Limits.{mostContracts}
-use Rattle.deals.specs.Deals.{Deals, count, kind, fixed, demanded}
+use Rattle.deals.specs.Deals.{Deals, count, kind, fixed}
 use Rattle.deals.specs.Hour.{Rows, ownOf, ownCount}
 use Rattle.deals.proofs.Own.{count-own, own-rows}
 use Rattle.contracts.specs.Keys.{rowCount, Ready}
@@ -32,32 +31,21 @@ module _ (s : Rows) (ds : List ℕ) (ready : Ready s ds) (b : ℕ) where
         ready .few,
       )
 
-  -- a test that no row of the sheet passes is passed by none of them
-  none-own : (a c : ℕ → ℕ)
-      → ((j : ℕ) → j < rowCount s → c (at (s .kinds) j) ≤ a (at (s .kinds) j))
-      → (k : ℕ)
-      → k < count own
-      → c (kind own k) ≤ a (kind own k)
-  none-own a c h k l = go (decLt (a (kind own k)) (c (kind own k)))
+  -- no row of the sheet is of a lower kind, so none of them is
+  pub own-known : (k : ℕ) → k < count own → fixed ≤ kind own k
+  own-known k l = go (decLt (kind own k) fixed)
     where
-      none : sum (count own) (λ i. pick (ltb (a (kind own i)) (c (kind own i))) 1) ≡ 0
+      none : sum (count own) (λ i. pick (ltb (kind own i) fixed) 1) ≡ 0
       none =
-          own-rows s b (λ kd x q t. pick (ltb (a kd) (c kd)) 1)
-          ∙ sum-zero (rowCount s)
-          (λ j. pick (eqb (at (s .buyers) j) b) (pick (ltb (a (at (s .kinds) j)) (c (at (s .kinds) j))) 1))
-          (λ j m. rw (pick-ge (a (at (s .kinds) j)) (c (at (s .kinds) j)) 1 (h j m)) (pick-zero (eqb (at (s .buyers) j) b)))
+          own-rows s b (λ kd x q t. pick (ltb kd fixed) 1)
+          ∙ sum-zero (rowCount s) (λ j. pick (eqb (at (s .buyers) j) b) (pick (ltb (at (s .kinds) j) fixed) 1))
+          (λ j m. rw (pick-ge (at (s .kinds) j) fixed 1 (ready .least j m)) (pick-zero (eqb (at (s .buyers) j) b)))
 
-      go : Dec (a (kind own k) < c (kind own k)) → c (kind own k) ≤ a (kind own k)
+      go : Dec (kind own k < fixed) → fixed ≤ kind own k
       go (yes z) = absurd (omega (
         arith,
         none,
-        sum-term (count own) k (λ i. pick (ltb (a (kind own i)) (c (kind own i))) 1) l,
-        pick-lt (a (kind own k)) (c (kind own k)) 1 z,
+        sum-term (count own) k (λ i. pick (ltb (kind own i) fixed) 1) l,
+        pick-lt (kind own k) fixed 1 z,
       ))
       go (no z) = omega arith
-
-  pub own-known : (k : ℕ) → k < count own → fixed ≤ kind own k
-  own-known = none-own (λ k. k) (λ k. fixed) (ready .least)
-
-  pub own-most : (k : ℕ) → k < count own → kind own k ≤ demanded
-  own-most = none-own (λ k. demanded) (λ k. k) (ready .most)

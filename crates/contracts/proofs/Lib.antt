@@ -6,6 +6,7 @@ pub mod RowKeys
 pub mod OwnKeys
 pub mod ByPlace
 pub mod Section
+pub mod OneSide
 pub mod Uncut
 pub mod Spots
 pub mod Verdicts

@@ -3,22 +3,19 @@
 use Prim.Native.Nat.{ℕ, _+_, _*_, _/_, _%_, _≤_, _<_}
 use native.Mathlib.Omega.{arith}
 use native.Mathlib.Decide.{decLt, ℕ-discrete}
-use mathlib.Core.Bool.{true, false}
 use mathlib.Core.List.{List}
-use mathlib.Core.Path.{_≡_, _∙_}
+use mathlib.Core.Path.{_≡_}
 use lib.Dec.{ltb, eqb}
-use borrow.Author.Tests.{eqb-true, eqb-false}
 use Rattle.sums.specs.Sums.{pick}
 use Rattle.sums.specs.Lists.{at}
-use Rattle.sums.proofs.Picks.{pick-ne}
 use Rattle.deals.specs.Deals.{kind, price, fixed, conditional, demanded}
 use Rattle.deals.specs.Hour.{Rows}
 use Rattle.deals.proofs.Rest.{orderOf}
-use Rattle.contracts.specs.Keys.{dealKey, keyAt, keyBuyer, keySide, isDemanded, keyGroup, keyRow}
+use Rattle.contracts.specs.Keys.{dealKey, keyAt, keySide, keyGroup, keyRow}
 use Rattle.contracts.specs.Keys.{rowSpan, priceSpan, rowCount, Ready}
 use Rattle.contracts.specs.Sides.{sideOf}
-use Rattle.contracts.proofs.Decode.{both-lt, both-ge, side-demanded, side-firm, bit-kind}
-use Rattle.contracts.proofs.Decode.{key-row, key-group, key-buyer, key-side, key-bit}
+use Rattle.contracts.proofs.Decode.{both-lt, both-ge, side-firm, bit-kind}
+use Rattle.contracts.proofs.Decode.{key-row, key-group, key-side, key-bit}
 
 -- of two rows of kinds 1 and 2 of one buyer, with the places p and r among its own: keys and rows stand alike
 pub order-key : (b y l j p x k i r : ℕ)
@@ -86,9 +83,6 @@ module _ (s : Rows) (ds : List ℕ) (ready : Ready s ds) where
   pub row-key-row : (j : ℕ) → j < n → keyRow (key j) ≡ j
   row-key-row j l = key-row (buyer j) (kindAt j) (priceAt j) j (ready .price j l) (omega (arith, ready .few))
 
-  pub row-key-buyer : (j : ℕ) → j < n → keyBuyer (key j) ≡ buyer j
-  row-key-buyer j l = key-buyer (buyer j) (kindAt j) (priceAt j) j (ready .price j l) (omega (arith, ready .few))
-
   pub row-key-group : (j : ℕ)
       → j < n
       → keyGroup (key j) ≡ ((buyer j * 2 + pick (eqb (kindAt j) demanded) 1) * priceSpan + priceAt j) * 2
@@ -100,23 +94,3 @@ module _ (s : Rows) (ds : List ℕ) (ready : Ready s ds) where
 
   pub row-key-bit : (j : ℕ) → j < n → key j / rowSpan % 2 ≡ pick (eqb (kindAt j) conditional) 1
   row-key-bit j l = key-bit (buyer j) (kindAt j) (priceAt j) j (ready .price j l) (omega (arith, ready .few))
-
-  -- a key says whether its row is of kind 3
-  pub key-demanded : (j : ℕ) → j < n → isDemanded (key j) ≡ true → kindAt j ≡ demanded
-  key-demanded j l e = go (ℕ-discrete (kindAt j) demanded)
-    where
-      go : Dec (kindAt j ≡ demanded) → kindAt j ≡ demanded
-      go (yes z) = z
-      go (no z) = absurd (omega (
-        arith,
-        eqb-true (keySide (key j) % 2) 1 e,
-        row-key-side j l,
-        pick-ne (kindAt j) demanded 1 z,
-      ))
-
-  pub key-firm : (j : ℕ) → j < n → isDemanded (key j) ≡ false → kindAt j < demanded
-  key-firm j l e = go (ℕ-discrete (kindAt j) demanded)
-    where
-      go : Dec (kindAt j ≡ demanded) → kindAt j < demanded
-      go (yes z) = absurd (eqb-false (keySide (key j) % 2) 1 e (omega (arith, row-key-side j l, side-demanded (kindAt j) z)))
-      go (no z) = omega (arith, ready .most j l)

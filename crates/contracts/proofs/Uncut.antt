@@ -2,29 +2,29 @@
 -- assigned in full: what is ahead of a row of kind 2, with the row itself, is part of them. Where they hold more than the demand, they
 -- leave nothing for kind 3. Where kind 3 fits into what they leave, each group with all cheaper ones is part of it, and in full too.
 -- Assumes nothing.
-use Prim.Native.Nat.{ℕ, suc, _+_, _-_, _*_, _/_, _%_, _≤_, _<_}
+use Prim.Native.Nat.{ℕ, suc, _+_, _-_, _*_, _≤_, _<_}
 use native.Mathlib.Omega.{arith}
-use native.Mathlib.Decide.{decLt, decLe, ℕ-discrete}
+use native.Mathlib.Decide.{decLt, ℕ-discrete}
 use mathlib.Core.Bool.{Bool, true, false, cond, not, _&&_, _||_}
 use mathlib.Core.List.{List}
 use mathlib.Core.Path.{_≡_, refl, sym, ap, ap₂, _∙_}
 use lib.Dec.{ltb, eqb}
-use lib.ListN.{length, take, set, replicate, length-set, length-replicate, getD-replicate}
+use lib.ListN.{length, set, replicate, length-set, length-replicate, getD-replicate}
 use borrow.Author.Tests.{lt-ltb, le-ltb, eq-eqb, ne-eqb, eqb-true}
-use lib.Seq.{getD-set-same, getD-set-other, getD-take, length-take-le}
+use lib.Seq.{getD-set-same, getD-set-other}
 use Rattle.sums.specs.Sums.{sum, pick, keyed}
 use Rattle.sums.specs.Lists.{at, total, Filled}
 use Rattle.sums.proofs.Sums.{sum-eq, sum-le, sum-add, sum-term}
 use Rattle.sums.proofs.Picks.{pick-le, pick-eq, pick-ne, pick-lt, pick-ge, pick-both, pick-true, pick-false, pick-zero}
 use Rattle.sums.proofs.Keyed.{keyed-none, keyed-most, keyed-put}
 use Rattle.sums.proofs.Tests.{clash, and-both}
-use Rattle.limits.specs.Limits.{mostAgents, mostContracts, mostQuantity}
+use Rattle.limits.specs.Limits.{mostAgents, mostContracts}
 use Rattle.limits.specs.declared.Contract.{Contract}
 use Rattle.share.specs.Share.{shareOf}
 use Rattle.share.proofs.Laws.{share-no-amount}
-use Rattle.deals.specs.Deals.{Deals, count, kind, price, quantity, fixed, conditional}
-use Rattle.deals.specs.Deals.{demanded, stands, aheadOf, restOf, cheaperOf, groupOf, demandedAt, amountAt}
-use Rattle.deals.specs.Hour.{Rows, ownOf, ownCount, hourAmount}
+use Rattle.deals.specs.Deals.{Deals, count, kind, price, quantity, fixed}
+use Rattle.deals.specs.Deals.{demanded, stands, aheadOf, restOf, cheaperOf, groupOf, amountAt}
+use Rattle.deals.specs.Hour.{ownOf, ownCount, hourAmount}
 use Rattle.deals.proofs.Own.{own-lt, own-kind, own-quantity, own-rows}
 use Rattle.deals.proofs.Hours.{hour-is}
 use Rattle.deals.proofs.Firm.{firm-fixed, firm-needed}
@@ -35,11 +35,10 @@ use Rattle.deals.proofs.Rest.{rest-total}
 use Rattle.contracts.specs.Assign.{countIn, dealIn, dealsIn}
 use Rattle.contracts.specs.Keys.{Ready}
 use Rattle.contracts.specs.Sides.{Bounded, sideOf, sideCell, heldIn, BySide, AddedUp, cutOf, sideStart, Decided, NoneCut, Cuts}
-use Rattle.contracts.specs.Sides.{isCut, sideIn, uncutOf, Cut}
+use Rattle.contracts.specs.Sides.{uncutOf, tagIn, CutBelow}
 use Rattle.contracts.proofs.Decode.{side-demanded, side-firm}
-use Rattle.contracts.proofs.Known.{own-few, own-known, own-most}
+use Rattle.contracts.proofs.Known.{own-few, own-known}
 use Rattle.contracts.proofs.OwnKeys.{firmSum}
-use Rattle.contracts.proofs.ByPlace.{Starts}
 use Rattle.contracts.proofs.Section.{count-is, few-rows, buyer-in, kind-in, price-in, quantity-in}
 
 -- ---- one retailer
@@ -203,26 +202,27 @@ module _ (d f a : ℕ) where
       go (yes h) = absurd (omega (arith, cut-firm h))
       go (no h) = omega arith
 
--- a side as keys say it
-pub cut-at : (l : List ℕ) (b t : ℕ) → t ≤ 1 → isCut l (b * 2 + t) ≡ eqb (at l (mostAgents + b)) t
-cut-at l b t h =
-    let x : mostAgents + (b * 2 + t) / 2 ≡ mostAgents + b = omega arith in
-    let y : (b * 2 + t) % 2 ≡ t = omega arith in
-    ap₂ (λ (u v : ℕ). eqb (at l u) v) x y
-
-cut-at-firm : (l : List ℕ) (b : ℕ) → isCut l (b * 2) ≡ eqb (at l (mostAgents + b)) 0
-cut-at-firm l b = let x : b * 2 ≡ b * 2 + 0 = omega arith in ap (isCut l) x ∙ cut-at l b 0 (omega arith)
-
 pub side-most : (k : ℕ) → sideOf k ≤ 1
 side-most k = pick-le (eqb k demanded) 1
 
+-- ---- a row's tag
+module _ (s decided : List ℕ) (j : ℕ) where
+  pub tag-cut : at decided (mostAgents + dealIn s j .buyer) ≡ sideOf (dealIn s j .kind) → tagIn s decided j ≡ dealIn s j .buyer
+  unfolding tagIn
+  tag-cut e = ap (λ (t : Bool). cond t (dealIn s j .buyer) mostAgents) (eq-eqb _ _ e)
+
+  pub tag-not : (at decided (mostAgents + dealIn s j .buyer) ≡ sideOf (dealIn s j .kind) → ⊥) → tagIn s decided j ≡ mostAgents
+  unfolding tagIn
+  tag-not e = ap (λ (t : Bool). cond t (dealIn s j .buyer) mostAgents) (ne-eqb _ _ e)
+
 -- ---- the rows of a section
 module _ (s ds : List ℕ) (ready : Ready (dealsIn s) ds) where
-  pub bounded : Bounded s
+  pub bounded : Bounded s (length ds)
   bounded =
       record {
         few = few-rows s ds ready;
-        buyer = λ i l. omega (arith, buyer-in s i l, ready .buyer i (omega (arith, count-is s)), ready .agents);
+        most = ready .agents;
+        buyer = λ i l. omega (arith, buyer-in s i l, ready .buyer i (omega (arith, count-is s)));
         price = λ i l. omega (arith, price-in s i l, ready .price i (omega (arith, count-is s)));
       }
 
@@ -275,7 +275,8 @@ module _ (s ds : List ℕ) (ready : Ready (dealsIn s) ds) where
   held-asked b =
       sum-eq (countIn s) (λ j. pick (eqb (sideCell (dealIn s j)) (mostAgents + b)) (dealIn s j .quantity))
       (λ j. pick (eqb (dealIn s j .buyer) b) (pick (eqb (dealIn s j .kind) demanded) (dealIn s j .quantity)))
-      (λ j l. each (dealIn s j) (ℕ-discrete (dealIn s j .kind) demanded) (ℕ-discrete (dealIn s j .buyer) b) (bounded .buyer j l))
+      (λ j l. each (dealIn s j) (ℕ-discrete (dealIn s j .kind) demanded) (ℕ-discrete (dealIn s j .buyer) b)
+      (omega (arith, bounded .buyer j l, ready .agents)))
       ∙ sym (own-in b (λ k q. pick (eqb k demanded) q))
     where
       each : (k : Contract)
@@ -310,25 +311,22 @@ module _ (s ds : List ℕ) (ready : Ready (dealsIn s) ds) where
       }
 
   module _ (decided : List ℕ) (c : Cuts s ds decided) where
-    -- where the walk begins
-    pub cut-starts : Starts (dealsIn s) ds ready (isCut decided) (take (length ds) decided)
-    cut-starts =
-        record {
-          firm =
-              λ b l e. getD-take (length ds) decided b 0 l ∙ c .start b l
-              ∙ start-firm (at ds b) (heldIn s (countIn s) b)
-              (firm-is-cut (at ds b) (heldIn s (countIn s) b) (heldIn s (countIn s) (mostAgents + b))
-              (sym (c .cut b l) ∙ eqb-true _ 0 (sym (cut-at-firm decided b) ∙ e)));
-          asked =
-              λ b l e. (let one : at decided (mostAgents + b) ≡ 1 = eqb-true _ 1 (sym (cut-at decided b 1 (omega arith)) ∙ e) in (
-                cut-at-firm decided b ∙ ne-eqb (at decided (mostAgents + b)) 0 (λ z. omega arith),
-                getD-take (length ds) decided b 0 l ∙ c .start b l
-                    ∙ start-asked (at ds b) (heldIn s (countIn s) b)
-                    (asked-is-cut (at ds b) (heldIn s (countIn s) b) (heldIn s (countIn s) (mostAgents + b)) (sym (c .cut b l) ∙ one))
-                    ∙ ap (λ (x : ℕ). at ds b - x) (held-firm b (omega (arith, ready .agents))),
-              ));
-          long = length-take-le (length ds) decided (omega (arith, c .long, ready .agents));
-        }
+    -- where the side that is cut begins
+    pub begins-firm : (b : ℕ) → b < length ds → at decided (mostAgents + b) ≡ 0 → at decided b ≡ at ds b
+    begins-firm b l e =
+        c .start b l
+        ∙ start-firm (at ds b) (heldIn s (countIn s) b)
+        (firm-is-cut (at ds b) (heldIn s (countIn s) b) (heldIn s (countIn s) (mostAgents + b)) (sym (c .cut b l) ∙ e))
+
+    pub begins-asked : (b : ℕ)
+        → b < length ds
+        → at decided (mostAgents + b) ≡ 1
+        → at decided b ≡ at ds b - firmSum (dealsIn s) ds ready b
+    begins-asked b l e =
+        c .start b l
+        ∙ start-asked (at ds b) (heldIn s (countIn s) b)
+        (asked-is-cut (at ds b) (heldIn s (countIn s) b) (heldIn s (countIn s) (mostAgents + b)) (sym (c .cut b l) ∙ e))
+        ∙ ap (λ (x : ℕ). at ds b - x) (held-firm b (omega (arith, ready .agents)))
 
     -- a row whose side is not cut
     module _ (j : ℕ) (l : j < countIn s) (not-cut : at decided (mostAgents + dealIn s j .buyer) ≡ sideOf (dealIn s j .kind) → ⊥) where
@@ -360,7 +358,7 @@ module _ (s ds : List ℕ) (ready : Ready (dealsIn s) ds) where
       amount = hour-is (dealsIn s) ds b j lj (buyer-in s j l)
 
       firm-is : heldIn s (countIn s) b ≡ firmSum (dealsIn s) ds ready b
-      firm-is = held-firm b (bounded .buyer j l)
+      firm-is = held-firm b (omega (arith, lb, ready .agents))
 
       cut-is : at decided (mostAgents + b) ≡ cutOf d (heldIn s (countIn s) b) (heldIn s (countIn s) (mostAgents + b))
       cut-is = c .cut b lb
@@ -435,7 +433,7 @@ module _ (s ds : List ℕ) (ready : Ready (dealsIn s) ds) where
     -- THE ROWS OF SIDES THAT ARE NOT CUT, AND THEN THOSE OF THE OTHERS
     pub cut-full : (start before after : List ℕ)
         → Filled 0 start before (countIn s) (λ i. uncutOf decided (dealIn s i))
-        → Cut s ds (isCut decided) before after
+        → CutBelow s ds decided (length ds) before after
         → Filled 0 start after (countIn s) (hourAmount (dealsIn s) ds)
     cut-full start before after f z =
         record {
@@ -448,10 +446,9 @@ module _ (s ds : List ℕ) (ready : Ready (dealsIn s) ds) where
             → j < countIn s
             → Dec (at decided (mostAgents + dealIn s j .buyer) ≡ sideOf (dealIn s j .kind))
             → at after j ≡ hourAmount (dealsIn s) ds j
-        row j l (yes e) = z .done j l (cut-at decided (dealIn s j .buyer) _ (side-most (dealIn s j .kind)) ∙ eq-eqb _ _ e)
+        row j l (yes e) = z .done j l (omega (arith, tag-cut s decided j e, bounded .buyer j l))
         row j l (no e) =
-            z .others j l (cut-at decided (dealIn s j .buyer) _ (side-most (dealIn s j .kind)) ∙ ne-eqb _ _ e)
-            ∙ (f .done j l ∙ uncut-is j l e)
+            z .others j l (omega (arith, tag-not s decided j e, ready .agents)) ∙ (f .done j l ∙ uncut-is j l e)
 
     -- WHERE NO SIDE IS CUT EVERY ROW IS ASSIGNED IN FULL
     pub none-cut-full : (start after : List ℕ)

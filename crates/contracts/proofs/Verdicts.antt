@@ -1,14 +1,14 @@
 -- When the rows can be assigned: what each test tells, and that good rows are never turned away. Assumes nothing.
 use Prim.Native.Nat.{ℕ, _+_, _-_, _%_, _≤_, _<_}
 use native.Mathlib.Omega.{arith}
-use mathlib.Core.Bool.{Bool, true, false, _&&_, true≢false}
+use mathlib.Core.Bool.{Bool, true, false, _&&_}
 use mathlib.Core.List.{List, [], _∷_}
 use mathlib.Core.Path.{_≡_, ap, _∙_, sym}
 use lib.Dec.{ltb, leb, eqb}
-use lib.ListN.{length}
+use lib.ListN.{length, take}
 use borrow.Author.Tests.{ltb-true, leb-true, eqb-true, lt-ltb, le-leb, eq-eqb}
 use Rattle.sums.specs.Lists.{at, Filled}
-use Rattle.sums.proofs.Tests.{all-true}
+use Rattle.sums.proofs.Tests.{all-true, clash}
 use Rattle.sums.proofs.Fill.{filled-none, filled-count, filled-unique}
 use Rattle.refusals.proofs.Fine.{not-fine, else-fine, fine-left, fine-parts, parts-fine, fine-test, each-fine, all-fine}
 use Rattle.refusals.proofs.FirstBad.{good-row, bad-row}
@@ -17,12 +17,13 @@ use Rattle.refusals.specs.declared.Refusal.{Refusal}
 use Rattle.refusals.specs.declared.Verdict.{Verdict}
 use Rattle.limits.specs.Limits.{mostAgents, mostContracts, mostQuantity, mostPrice}
 use Rattle.limits.specs.declared.Contract.{Contract}
+use Rattle.order.specs.Passes.{NextPlaces}
 use Rattle.deals.specs.Deals.{fixed, demanded}
 use Rattle.deals.specs.Hour.{hourAmount}
 use Rattle.contracts.specs.Assign.{countIn, dealIn, dealsIn, sectionFits, dealGood, dealVerdict}
 use Rattle.contracts.specs.Assign.{layoutVerdict, dealsVerdict, amountsVerdict, assignVerdict, Assigned}
 use Rattle.contracts.specs.Keys.{rowCount, Ready}
-use Rattle.contracts.specs.Sides.{SidesTotalled, Cuts, Reserved, Planned}
+use Rattle.contracts.specs.Sides.{SidesTotalled, Cuts, tagIn, Planned}
 use Rattle.contracts.proofs.Section.{count-is, buyer-in, kind-in, price-in, quantity-in}
 
 -- ---- what the layout's test tells
@@ -172,27 +173,32 @@ module _ (s ds out : List ℕ) where
       }
 
 -- ---- what a survey tells: a refusal, that no side is cut, or where the keys of the cut sides go
-module _ (s ds out decided next : List ℕ) where
-  pub planned-not : (v : Verdict) (some : Bool) (rows : ℕ) (r : Refusal)
+module _ (s ds out decided next : List ℕ) (long : length next ≡ mostAgents) where
+  pub planned-not : (v : Verdict) (some : Bool) (r : Refusal)
       → v ≡ assignVerdict s ds out
       → v ≡ Verdict.Refused r
-      → Planned s ds out (record { verdict = v; some = some; rows = rows }) decided next
-  planned-not v some rows r e f =
+      → Planned s ds out (record { verdict = v; some = some }) decided next
+  planned-not v some r e f =
       record {
         answer = e;
         cuts = λ z. not-fine r (sym f ∙ z);
         none = λ z. not-fine r (sym f ∙ z);
         places = λ z. not-fine r (sym f ∙ z);
+        long = long;
       }
 
-  module _ (v : Verdict) (rows : ℕ) (e : v ≡ assignVerdict s ds out) (c : Cuts s ds decided) where
-    pub planned-none : ((b : ℕ) → b < length ds → at decided (mostAgents + b) ≡ 2)
-        → Planned s ds out (record { verdict = v; some = false; rows = rows }) decided next
-    planned-none n = record { answer = e; cuts = λ z. c; none = λ z y. n; places = λ z y. absurd (true≢false (sym y)) }
+  module _ (v : Verdict) (some : Bool) (e : v ≡ assignVerdict s ds out) (c : Cuts s ds decided) where
+    pub planned-none : some ≡ false
+        → ((b : ℕ) → b < length ds → at decided (mostAgents + b) ≡ 2)
+        → Planned s ds out (record { verdict = v; some = some }) decided next
+    planned-none f n =
+        record { answer = e; cuts = λ z. c; none = λ z y. n; places = λ z y. absurd (clash some y f); long = long }
 
-    pub planned-some : Reserved s ds decided rows next
-        → Planned s ds out (record { verdict = v; some = true; rows = rows }) decided next
-    planned-some p = record { answer = e; cuts = λ z. c; none = λ z y. absurd (true≢false y); places = λ z y. p }
+    pub planned-some : some ≡ true
+        → NextPlaces (tagIn s decided) (length ds) (countIn s) 0 (take (length ds) next)
+        → Planned s ds out (record { verdict = v; some = some }) decided next
+    planned-some f p =
+        record { answer = e; cuts = λ z. c; none = λ z y. absurd (clash some f y); places = λ z y. p; long = long }
 
 -- ---- a refusal writes no cell, and fine rows are all written
 module _ (s ds before : List ℕ) where

@@ -12,40 +12,33 @@ ghost use Prim.Native.Nat.{_+_, _≤_, _<_};
 ghost use lib.Dec.{eqb};
 ghost use lib.ListN.{length};
 ghost use Rattle.sums.specs.Sums.{pick};
-ghost use Rattle.sums.specs.Lists.{at, Filled};
+ghost use Rattle.sums.specs.Lists.{at};
 ghost use Rattle.refusals.specs.Refusals.{refusedUnless, orElse, noRoom};
-ghost use Rattle.limits.specs.Limits.{mostAgents, mostContracts};
-ghost use Rattle.contracts.specs.Assign.{countIn, dealIn, dealsIn, sectionFits, assignVerdict, Assigned};
-ghost use Rattle.contracts.specs.Keys.{rowSpan, dealKey, keyIn, keyRow, Ready};
-ghost use Rattle.contracts.specs.Sides.{AddedUp, Numbered, SidesTotalled, Cuts, isCut, Reserved, Planned};
-ghost use Rattle.contracts.specs.Sides.{FrontKeys, Picked, Cut, AllAssigned};
-ghost use Rattle.contracts.specs.Walk.{Rowed, Scattered};
+ghost use Rattle.limits.specs.Limits.{mostAgents, mostPrice};
+ghost use Rattle.order.specs.Passes.{NextPlaces, Placed};
+ghost use Rattle.contracts.specs.Assign.{countIn, dealsIn, sectionFits, assignVerdict, Assigned};
+ghost use Rattle.contracts.specs.Keys.{rowSpan, lowKey, lowIn, keyIn, wholes, Ready};
+ghost use Rattle.contracts.specs.Sides.{AddedUp, Numbered, SidesTotalled, Cuts, cutSide, tagIn, Planned};
+ghost use Rattle.contracts.specs.Sides.{FrontKeys, Cut, CutBelow, AllAssigned};
 
-// ---- the key of each row, by which the rows are put in order
+// ---- the key of each row, by which the rows of one side of a buyer are put in order
 
-// The rows, and the prices, that a key has room for.
-pub(crate) const ROW_SPAN: u64 = 256;
-
-const PRICE_SPAN: u64 = 1048576;
-
-// How far the buyer stands from its end; how far the bit for kind 3 does, `order` says.
-pub(crate) const BUYER_SPAN: u64 = 1073741824;
+// The rows that a key has room for.
+pub(crate) const ROW_SPAN: u32 = 256;
 
 // 1 for a row of the kind asked for, 0 for any other.
-fn of_kind(kind: u32, which: u32) -> u64
+fn of_kind(kind: u32, which: u32) -> u32
     ensures { λ r. ⌜ (r ≡ pick (eqb kind which) 1) × (r ≤ 1) ⌝ }
 {
     if kind == which { 1 } else { 0 }
 }
 
-// The number by which a row stands in its place.
-pub(crate) fn key_of(buyer: u32, kind: u32, price: u32, row: usize) -> u64
-    requires { ⌜ row < rowSpan ⌝ }
-    ensures { λ r. ⌜ r ≡ dealKey buyer kind price row ⌝ }
+// The number by which a row stands in its place: of kind 3 the second part is always 0.
+pub(crate) fn key_of(kind: u32, price: u32, row: usize) -> u32
+    requires { ⌜ (price ≤ mostPrice) × (row < rowSpan) ⌝ }
+    ensures { λ r. ⌜ r ≡ lowKey kind price row ⌝ }
 {
-    let side = sums::wide(buyer) * 2 + of_kind(kind, Contract::DEMANDED);
-    let level = (side * PRICE_SPAN + sums::wide(price)) * 2 + of_kind(kind, Contract::CONDITIONAL);
-    level * ROW_SPAN + row as u64
+    (price * 2 + of_kind(kind, Contract::CONDITIONAL)) * ROW_SPAN + row as u32
 }
 
 // ---- whether the rows can be assigned
@@ -97,99 +90,81 @@ fn judge(
     or_else(rows, room)
 }
 
-// ---- from rows to places and back
-
-fn row_of(k: u64) -> usize
-    ensures { λ r. ⌜ r ≡ keyRow k ⌝ }
-{
-    (k % ROW_SPAN) as usize
-}
-
-// The quantities by place.
-fn gather(section: &[u8], keys: &[u64], n: usize, out: &mut [u32])
-    requires { ⌜ (n ≤ length (now keys)) × (n ≤ length (now out)) ⌝ }
-    ensures { λ _. ⌜ Filled 0 (now (out .entry)) (now (out .exit)) n
-        (λ u. dealIn (now (section .entry)) (keyRow (at (now (keys .entry)) u)) .quantity) ⌝ }
-{
-    let mut p = 0;
-    while p < n {
-        out[p] = rows::contract_of(octets::row_at(section, row_of(keys[p]))).quantity;
-        p += 1;
-    }
-}
-
-// The amounts by row.
-fn scatter(keys: &[u64], n: usize, amounts: &[u32], out: &mut [u32])
-    requires { ⌜ (n ≤ length (now keys)) × (n ≤ length (now amounts)) × Rowed (now keys) n (length (now out)) ⌝ }
-    ensures { λ _. ⌜ Scattered (now (keys .entry)) n (now (amounts .entry)) (now (out .entry)) (now (out .exit)) ⌝ }
-{
-    let mut p = 0;
-    while p < n {
-        out[row_of(keys[p])] = amounts[p];
-        p += 1;
-    }
-}
-
 // ---- the amounts
 
-// The rows of the sides that are cut, from their keys in order: each is assigned by place, and put back.
-fn serve(section: &[u8], keys: &[u64], n: usize, decided: &[u32], demands: &[u32], out: &mut [u32])
-    requires { ⌜ Ready (dealsIn (now section)) (now demands) × (countIn (now section) ≤ length (now out)) × (n ≤ length (now keys)) ⌝ }
-    requires { ⌜ Cuts (now section) (now demands) (now decided) × (n ≤ mostContracts)
-        × Picked (isCut (now decided)) (keyIn (now section)) (countIn (now section)) n (now keys) ⌝ }
-    ensures { λ _. ⌜ Cut (now (section .entry)) (now (demands .entry)) (isCut (now (decided .entry)))
-        (now (out .entry)) (now (out .exit)) ⌝ }
-{
-    let mut placed = [0u32; Contract::MOST];
-    let mut amounts = [0u32; Contract::MOST];
-    gather(section, keys, n, &mut placed);
-    walk::walk(keys, n, &placed, &decided[..demands.len()], &mut amounts);
-    scatter(keys, n, &amounts, out);
-}
-
-// The same from their keys by buyer, `most` of one buyer at the most. The sort's scratch is gone when they are served.
-fn assign_cut(
+// Buyer b's side that is cut, from its keys: they are put in order, and each row gets its amount by its place. The sort's scratch is
+// gone by then. Where there are no keys, nothing changes.
+fn serve_side(
     section: &[u8],
-    keys: &mut [u64],
-    most: u32,
-    decided: &[u32],
     demands: &[u32],
+    decided: &[u32],
+    b: usize,
+    keys: &mut [u32],
     out: &mut [u32],
 )
+    requires { ⌜ Ready (dealsIn (now section)) (now demands) × (countIn (now section) ≤ length (now out))
+        × (b < length (now demands)) ⌝ }
+    requires { ⌜ Cuts (now section) (now demands) (now decided) × (0 < length (now keys) → at (now decided) (mostAgents + b) ≤ 1)
+        × (0 < length (now keys) → FrontKeys (eqb (cutSide (now decided) b)) (keyIn (now section)) (countIn (now section))
+        (wholes (cutSide (now decided) b) (now keys))) ⌝ }
+    ensures { λ _. ⌜ (0 < length (now (keys .entry)) → Cut (now (section .entry)) (now (demands .entry))
+        (eqb (cutSide (now (decided .entry)) b)) (now (out .entry)) (now (out .exit)))
+        × (length (now (keys .entry)) ≡ 0 → now (out .exit) ≡ now (out .entry)) ⌝ }
+{
+    if keys.len() == 0 {
+        return;
+    }
+    order::sort(keys);
+    if decided[Agent::MOST + b] == 0 {
+        walk::serve_firm(section, keys, decided[b], out);
+        return;
+    }
+    walk::serve_asked(section, keys, decided[b], out);
+}
+
+// Each buyer's side that is cut, one after the other: its keys end where its next one would have gone.
+fn serve_all(
+    section: &[u8],
+    demands: &[u32],
+    decided: &[u32],
+    ends: &[u32],
+    keys: &mut [u32],
+    out: &mut [u32],
+)
+    requires { ⌜ Ready (dealsIn (now section)) (now demands) × (countIn (now section) ≤ length (now out)) ⌝ }
+    requires { ⌜ Cuts (now section) (now demands) (now decided) × (countIn (now section) ≤ length (now keys))
+        × NextPlaces (tagIn (now section) (now decided)) (length (now demands)) (countIn (now section)) (countIn (now section)) (now ends)
+        × Placed (tagIn (now section) (now decided)) (lowIn (now section)) (length (now demands)) (countIn (now section))
+        (countIn (now section)) (now keys) (now keys) ⌝ }
+    ensures { λ _. ⌜ CutBelow (now (section .entry)) (now (demands .entry)) (now (decided .entry)) (length (now (demands .entry)))
+        (now (out .entry)) (now (out .exit)) ⌝ }
+{
+    let mut begin = 0;
+    let mut b = 0;
+    while b < demands.len() {
+        let end = ends[b] as usize;
+        serve_side(section, demands, decided, b, &mut keys[begin..end], out);
+        begin = end;
+        b += 1;
+    }
+}
+
+// Where some side is cut: the rows of the others at once, then its own.
+fn assign_some(section: &[u8], decided: &[u32], next: &mut [u32], demands: &[u32], out: &mut [u32])
     requires { ⌜ Ready (dealsIn (now section)) (now demands) × (countIn (now section) ≤ length (now out)) ⌝ }
     requires { ⌜ Cuts (now section) (now demands) (now decided)
-        × FrontKeys (isCut (now decided)) (keyIn (now section)) (countIn (now section)) (length (now keys)) (now keys) ⌝ }
-    ensures { λ _. ⌜ Cut (now (section .entry)) (now (demands .entry)) (isCut (now (decided .entry)))
-        (now (out .entry)) (now (out .exit)) ⌝ }
-{
-    order::sort(keys, most);
-    serve(section, keys, keys.len(), decided, demands, out);
-}
-
-// Where some side is cut: the rows of the others at once, then its own, of which there are `rows`.
-fn assign_some(
-    section: &[u8],
-    decided: &[u32],
-    next: &mut [u32],
-    rows: usize,
-    demands: &[u32],
-    out: &mut [u32],
-)
-    requires { ⌜ Ready (dealsIn (now section)) (now demands) × (countIn (now section) ≤ length (now out)) ⌝ }
-    requires { ⌜ Cuts (now section) (now demands) (now decided) × Reserved (now section) (now demands) (now decided) rows (now next) ⌝ }
+        × NextPlaces (tagIn (now section) (now decided)) (length (now demands)) (countIn (now section)) 0 (now next) ⌝ }
     ensures { λ _. ⌜ AllAssigned (now (section .entry)) (now (demands .entry)) (now (out .entry)) (now (out .exit)) ⌝ }
 {
-    let most = next[Agent::MOST];
-    let mut keys = [0u64; Contract::MOST];
+    let mut keys = [0u32; Contract::MOST];
     sides::part(section, decided, next, &mut keys, out);
-    assign_cut(section, &mut keys[..rows], most, decided, demands, out);
+    serve_all(section, demands, decided, next, &mut keys, out);
 }
 
-// What is found of a section: whether it can be assigned, and if so whether any side is cut, and how many rows the cut sides have.
+// What is found of a section: whether it can be assigned, and if so whether any side is cut.
 struct Plan {
     verdict: Verdict,
     some: bool,
-    rows: usize,
 }
 
 // Judges the rows and decides which sides are cut; where any is, each buyer has its places. The counts are gone when it is done.
@@ -200,8 +175,9 @@ fn survey(
     totals: &mut [u32],
     next: &mut [u32],
 ) -> Plan
-    requires { ⌜ AddedUp (now section) 0 (now totals) × (length (now next) ≡ mostAgents + 1) ⌝ }
-    ensures { λ r. ⌜ Planned (now (section .entry)) (now (demands .entry)) (now (out .entry)) r (now (totals .exit)) (now (next .exit)) ⌝ }
+    requires { ⌜ AddedUp (now section) 0 (now totals) × (length (now next) ≡ mostAgents) ⌝ }
+    ensures { λ r. ⌜ Planned (now (section .entry)) (now (demands .entry)) (now (out .entry)) r
+        (now (totals .exit)) (now (next .exit)) ⌝ }
 {
     let mut counts = [0u32; sides::COUNTS];
     let verdict = judge(section, demands, out, totals, &mut counts);
@@ -209,22 +185,13 @@ fn survey(
         return Plan {
             verdict,
             some: false,
-            rows: 0,
         };
     };
-    if sides::decide(demands, totals) {
-        let rows = sides::spots(demands.len(), totals, &counts, next);
-        return Plan {
-            verdict,
-            some: true,
-            rows,
-        };
+    let some = sides::decide(demands, totals);
+    if some {
+        sides::spots(demands.len(), totals, &counts, next);
     }
-    Plan {
-        verdict,
-        some: false,
-        rows: 0,
-    }
+    Plan { verdict, some }
 }
 
 // What each contract of a section of rows gets; `demands` has the commercial demand of each agent.
@@ -232,14 +199,14 @@ pub fn assign(section: &[u8], demands: &[u32], out: &mut [u32]) -> Verdict
     ensures { λ r. ⌜ Assigned (now (section .entry)) (now (demands .entry)) (now (out .entry)) r (now (out .exit)) ⌝ }
 {
     let mut totals = [0u32; sides::CELLS];
-    let mut next = [0u32; sides::PLACES];
+    let mut next = [0u32; Agent::MOST];
     let p = survey(section, demands, out, &mut totals, &mut next);
     let verdict = p.verdict;
     let Verdict::Fine = verdict else {
         return verdict;
     };
     if p.some {
-        assign_some(section, &totals, &mut next, p.rows, demands, out);
+        assign_some(section, &totals, &mut next[..demands.len()], demands, out);
         return Verdict::Fine;
     }
     sides::in_full(section, out);

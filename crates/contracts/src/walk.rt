@@ -1,15 +1,16 @@
-// The walk over the ordered rows: each retailer's tally, from its demand on.
+// One side of a buyer, by its keys in order: the retailer's tally, from what is left where the side begins.
+use limits::Contract;
 ghost use mathlib.Core.Path.{_≡_};
-ghost use mathlib.Core.Bool.{true, false, cond, _||_};
+ghost use mathlib.Core.Bool.{_||_};
 ghost use Prim.Native.Nat.{_+_, _-_, _≤_, _<_};
-ghost use lib.Dec.{ltb, eqb};
+ghost use lib.Dec.{ltb};
 ghost use lib.ListN.{length};
 ghost use Rattle.sums.specs.Sums.{pick};
 ghost use Rattle.sums.specs.Lists.{at, total, Filled};
 ghost use Rattle.limits.specs.Limits.{mostContracts};
 ghost use Rattle.share.specs.Share.{shareOf};
-ghost use Rattle.contracts.specs.Keys.{keyBuyer, isDemanded, isFixed};
-ghost use Rattle.contracts.specs.Walk.{Stretch, groupAmount, Served, WalkFrom, Walked};
+ghost use Rattle.contracts.specs.Keys.{isFixed, keyRow};
+ghost use Rattle.contracts.specs.Walk.{quantityOf, quantitiesOf, Scattered, Rowed, firmAmount, Group, groupAmount, Walked, Rising};
 
 // What is left of a retailer's demand.
 pub struct Tally {
@@ -29,25 +30,25 @@ impl Tally {
 
 // ---- what a key says
 
-pub(crate) fn buyer_of(k: u64) -> usize
-    ensures { λ r. ⌜ r ≡ keyBuyer k ⌝ }
+fn row_of(k: u32) -> usize
+    ensures { λ r. ⌜ r ≡ keyRow k ⌝ }
 {
-    (k / crate::BUYER_SPAN) as usize
+    (k % crate::ROW_SPAN) as usize
 }
 
-fn demanded(k: u64) -> bool
-    ensures { λ r. ⌜ r ≡ isDemanded k ⌝ }
+fn quantity_of(section: &[u8], k: u32) -> u32
+    ensures { λ r. ⌜ r ≡ quantityOf (now (section .entry)) k ⌝ }
 {
-    k / order::SIDE_SPAN % 2 == 1
+    rows::contract_of(octets::row_at(section, row_of(k))).quantity
 }
 
-fn fixed(k: u64) -> bool
+fn fixed(k: u32) -> bool
     ensures { λ r. ⌜ r ≡ isFixed k ⌝ }
 {
     k / crate::ROW_SPAN % 2 == 0
 }
 
-// ---- one stretch
+// ---- kinds 1 and 2
 
 // Kind 1 in full, kind 2 in full where any of the demand is left.
 fn firm(in_full: bool, left: u32, q: u32) -> u32
@@ -56,95 +57,145 @@ fn firm(in_full: bool, left: u32, q: u32) -> u32
     if in_full | (0 < left) { q } else { 0 }
 }
 
-fn total_of(quantities: &[u32]) -> u64
-    requires { ⌜ length (now quantities) ≤ mostContracts ⌝ }
-    ensures { λ r. ⌜ r ≡ total (now (quantities .entry)) ⌝ }
+pub(crate) fn serve_firm(section: &[u8], keys: &[u32], left: u32, out: &mut [u32])
+    requires { ⌜ Rowed (now keys) (length (now keys)) (length (now out)) ⌝ }
+    ensures { λ _. ⌜ Scattered (now (keys .entry)) (length (now (keys .entry)))
+        (firmAmount (now (section .entry)) (now (keys .entry)) left) (now (out .entry)) (now (out .exit)) ⌝ }
+{
+    let mut tally = Tally { left };
+    let mut p = 0;
+    while p < keys.len() {
+        let k = keys[p];
+        let q = quantity_of(section, k);
+        out[row_of(k)] = firm(fixed(k), tally.left, q);
+        tally = tally.take(q);
+        p += 1;
+    }
+}
+
+// ---- kind 3: a group of one price
+
+fn in_full(section: &[u8], keys: &[u32], out: &mut [u32])
+    requires { ⌜ Rowed (now keys) (length (now keys)) (length (now out)) ⌝ }
+    ensures { λ _. ⌜ Scattered (now (keys .entry)) (length (now (keys .entry)))
+        (λ u. quantityOf (now (section .entry)) (at (now (keys .entry)) u)) (now (out .entry)) (now (out .exit)) ⌝ }
+{
+    let mut p = 0;
+    while p < keys.len() {
+        let k = keys[p];
+        out[row_of(k)] = quantity_of(section, k);
+        p += 1;
+    }
+}
+
+fn nothing(keys: &[u32], out: &mut [u32])
+    requires { ⌜ Rowed (now keys) (length (now keys)) (length (now out)) ⌝ }
+    ensures { λ _. ⌜ Scattered (now (keys .entry)) (length (now (keys .entry))) (λ _. 0) (now (out .entry)) (now (out .exit)) ⌝ }
+{
+    let mut p = 0;
+    while p < keys.len() {
+        out[row_of(keys[p])] = 0;
+        p += 1;
+    }
+}
+
+// The quantities by place.
+fn gather(section: &[u8], keys: &[u32], out: &mut [u32])
+    requires { ⌜ length (now keys) ≤ length (now out) ⌝ }
+    ensures { λ _. ⌜ Filled 0 (now (out .entry)) (now (out .exit)) (length (now (keys .entry)))
+        (λ u. quantityOf (now (section .entry)) (at (now (keys .entry)) u)) ⌝ }
+{
+    let mut p = 0;
+    while p < keys.len() {
+        out[p] = quantity_of(section, keys[p]);
+        p += 1;
+    }
+}
+
+// The amounts by row.
+fn scatter(keys: &[u32], amounts: &[u32], out: &mut [u32])
+    requires { ⌜ Rowed (now keys) (length (now keys)) (length (now out)) × (length (now keys) ≤ length (now amounts)) ⌝ }
+    ensures { λ _. ⌜ Scattered (now (keys .entry)) (length (now (keys .entry))) (at (now (amounts .entry)))
+        (now (out .entry)) (now (out .exit)) ⌝ }
+{
+    let mut p = 0;
+    while p < keys.len() {
+        out[row_of(keys[p])] = amounts[p];
+        p += 1;
+    }
+}
+
+// What is left, shared over the group's quantities. There are no more of them than a sheet may have contracts, so that sharing never
+// refuses.
+fn share_out(section: &[u8], keys: &[u32], left: u32, out: &mut [u32])
+    requires { ⌜ Rowed (now keys) (length (now keys)) (length (now out)) × (length (now keys) ≤ mostContracts) ⌝ }
+    ensures { λ _. ⌜ Scattered (now (keys .entry)) (length (now (keys .entry)))
+        (shareOf left (quantitiesOf (now (section .entry)) (now (keys .entry)))) (now (out .entry)) (now (out .exit)) ⌝ }
+{
+    let mut quantities = [0u32; Contract::MOST];
+    let mut amounts = [0u32; Contract::MOST];
+    gather(section, keys, &mut quantities);
+    let v = share::share(left, &quantities[..keys.len()], &mut amounts);
+    scatter(keys, &amounts, out);
+}
+
+fn total_of(section: &[u8], keys: &[u32]) -> u64
+    requires { ⌜ length (now keys) ≤ mostContracts ⌝ }
+    ensures { λ r. ⌜ r ≡ total (quantitiesOf (now (section .entry)) (now (keys .entry))) ⌝ }
 {
     let mut all: u64 = 0;
-    let mut j = 0;
-    while j < quantities.len() {
-        all += sums::wide(quantities[j]);
-        j += 1;
+    let mut p = 0;
+    while p < keys.len() {
+        all += sums::wide(quantity_of(section, keys[p]));
+        p += 1;
     }
     all
 }
 
-fn copy(from: &[u32], out: &mut [u32])
-    requires { ⌜ length (now from) ≤ length (now out) ⌝ }
-    ensures { λ _. ⌜ Filled 0 (now (out .entry)) (now (out .exit)) (length (now (from .entry))) (at (now (from .entry))) ⌝ }
+// A group that doesn't fit: one row gets what is left, several share it.
+fn share_left(section: &[u8], keys: &[u32], left: u32, out: &mut [u32])
+    requires { ⌜ Rowed (now keys) (length (now keys)) (length (now out)) × (length (now keys) ≤ mostContracts)
+        × (left < total (quantitiesOf (now section) (now keys))) ⌝ }
+    ensures { λ _. ⌜ Scattered (now (keys .entry)) (length (now (keys .entry)))
+        (shareOf left (quantitiesOf (now (section .entry)) (now (keys .entry)))) (now (out .entry)) (now (out .exit)) ⌝ }
 {
-    let mut j = 0;
-    while j < from.len() {
-        out[j] = from[j];
-        j += 1;
-    }
-}
-
-// A group that doesn't fit: one row gets what is left, several share it. There are no more than a sheet may have, and room for
-// each, so that sharing never refuses.
-fn share_left(left: u32, quantities: &[u32], amounts: &mut [u32])
-    requires { ⌜ (length (now quantities) ≤ mostContracts) × (length (now quantities) ≡ length (now amounts))
-        × (left < total (now quantities)) ⌝ }
-    ensures { λ _. ⌜ Filled 0 (now (amounts .entry)) (now (amounts .exit))
-        (length (now (quantities .entry))) (shareOf left (now (quantities .entry))) ⌝ }
-{
-    if quantities.len() == 1 {
-        amounts[0] = left;
+    if keys.len() == 1 {
+        out[row_of(keys[0])] = left;
         return;
     }
-    let v = share::share(left, quantities, amounts);
+    share_out(section, keys, left, out);
 }
 
-// Kind 3 at one price: in full where all of it fits, else the demand left is shared.
-fn serve_group(tally: Tally, quantities: &[u32], amounts: &mut [u32]) -> Tally
-    requires { ⌜ (length (now quantities) ≤ mostContracts) × (length (now quantities) ≡ length (now amounts)) ⌝ }
-    ensures { λ r. ⌜ (r .left ≡ tally .left - total (now (quantities .entry)))
-        × Filled 0 (now (amounts .entry)) (now (amounts .exit)) (length (now (quantities .entry)))
-        (groupAmount (tally .left) (now (quantities .entry))) ⌝ }
+// A group in full where all of it fits, else the demand left is shared.
+fn serve_group(section: &[u8], keys: &[u32], tally: Tally, out: &mut [u32]) -> Tally
+    requires { ⌜ Rowed (now keys) (length (now keys)) (length (now out)) × (length (now keys) ≤ mostContracts) ⌝ }
+    ensures { λ r. ⌜ (r .left ≡ tally .left - total (quantitiesOf (now (section .entry)) (now (keys .entry))))
+        × Scattered (now (keys .entry)) (length (now (keys .entry)))
+        (groupAmount (tally .left) (quantitiesOf (now (section .entry)) (now (keys .entry)))) (now (out .entry)) (now (out .exit)) ⌝ }
 {
-    let asked = total_of(quantities);
+    if tally.left == 0 {
+        nothing(keys, out);
+        return tally;
+    }
+    let asked = total_of(section, keys);
     if sums::wide(tally.left) < asked {
-        share_left(tally.left, quantities, amounts);
+        share_left(section, keys, tally.left, out);
         return Tally { left: 0 };
     }
-    copy(quantities, amounts);
+    in_full(section, keys, out);
     tally.take(asked as u32)
 }
 
-// The stretch whose first key is k.
-fn serve(k: u64, tally: Tally, quantities: &[u32], amounts: &mut [u32]) -> Tally
-    requires { ⌜ (length (now quantities) ≤ mostContracts) × (length (now quantities) ≡ length (now amounts))
-        × (isDemanded k ≡ false → length (now quantities) ≡ 1) ⌝ }
-    ensures { λ r. ⌜ Served k (tally .left) (now (quantities .entry)) (now (amounts .entry)) (r .left) (now (amounts .exit)) ⌝ }
-{
-    if demanded(k) {
-        return serve_group(tally, quantities, amounts);
-    }
-    let q = quantities[0];
-    amounts[0] = firm(fixed(k), tally.left, q);
-    tally.take(q)
-}
+// ---- kind 3: one group after the other
 
-// ---- the walk
-
-// The tally at a key of buyer b, where the key before it is of buyer a and leaves t, and b demands d.
-fn carried(t: Tally, a: usize, b: usize, d: u32) -> Tally
-    ensures { λ r. ⌜ r .left ≡ cond (eqb a b) (t .left) d ⌝ }
-{
-    if a == b {
-        return t;
-    }
-    Tally { left: d }
-}
-
-// Where the rows of one buyer and price of kind 3 end that begin at p.
-fn group_end(keys: &[u64], n: usize, p: usize) -> usize
-    requires { ⌜ (n ≤ length (now keys)) × (p < n) × (isDemanded (at (now keys) p) ≡ true) ⌝ }
-    ensures { λ r. ⌜ Stretch (now (keys .entry)) n p r ⌝ }
+// Where the rows of one price end that begin at p.
+fn group_end(keys: &[u32], p: usize) -> usize
+    requires { ⌜ p < length (now keys) ⌝ }
+    ensures { λ r. ⌜ Group (now (keys .entry)) p r ⌝ }
 {
     let group = keys[p] / crate::ROW_SPAN;
     let mut e = p + 1;
-    while e < n {
+    while e < keys.len() {
         if keys[e] / crate::ROW_SPAN != group {
             return e;
         }
@@ -153,38 +204,16 @@ fn group_end(keys: &[u64], n: usize, p: usize) -> usize
     e
 }
 
-// Where the stretch that begins at p ends.
-fn stretch_end(keys: &[u64], n: usize, p: usize) -> usize
-    requires { ⌜ (n ≤ length (now keys)) × (p < n) ⌝ }
-    ensures { λ r. ⌜ Stretch (now (keys .entry)) n p r ⌝ }
+pub(crate) fn serve_asked(section: &[u8], keys: &[u32], left: u32, out: &mut [u32])
+    requires { ⌜ Rising (now keys) (length (now out)) ⌝ }
+    ensures { λ _. ⌜ Walked (now (section .entry)) (now (keys .entry)) left (length (now (keys .entry)))
+        (now (out .entry)) (now (out .exit)) ⌝ }
 {
-    if demanded(keys[p]) {
-        return group_end(keys, n, p);
-    }
-    p + 1
-}
-
-// Assigns the first n places, stretch by stretch.
-pub(crate) fn walk(keys: &[u64], n: usize, quantities: &[u32], demands: &[u32], amounts: &mut [u32])
-    requires { ⌜ (n ≤ mostContracts) × (n ≤ length (now keys)) × (n ≤ length (now quantities)) × (n ≤ length (now amounts))
-        × WalkFrom (now keys) n (now quantities) (now demands) ⌝ }
-    ensures { λ _. ⌜ Walked (now (keys .entry)) (now (quantities .entry)) (now (demands .entry)) n (now (amounts .exit)) ⌝ }
-{
-    if n == 0 {
-        return;
-    }
-    let mut buyer = buyer_of(keys[0]);
-    let mut tally = Tally {
-        left: demands[buyer],
-    };
+    let mut tally = Tally { left };
     let mut p = 0;
-    while p < n {
-        let k = keys[p];
-        let b = buyer_of(k);
-        let t = carried(tally, buyer, b, demands[b]);
-        let e = stretch_end(keys, n, p);
-        tally = serve(k, t, &quantities[p..e], &mut amounts[p..e]);
-        buyer = b;
+    while p < keys.len() {
+        let e = group_end(keys, p);
+        tally = serve_group(section, &keys[p..e], tally, out);
         p = e;
     }
 }

@@ -1,14 +1,13 @@
 -- What judging totals up, deciding turns into what is cut; the counts of the sides that are cut are how many rows each buyer's places
 -- are to take.
 use mathlib.Core.Path.{_≡_, _∙_, sym}
-use mathlib.Core.Bool.{false}
 use borrow.Author.Needs.{needs}
 use Rattle.refusals.specs.declared.Verdict.{Verdict}
 use Rattle.contracts.specs.Assign.{countIn, dealsIn, assignVerdict}
 use Rattle.contracts.specs.Keys.{Ready}
 use Rattle.contracts.specs.Sides.{Numbered, Cuts}
 use Rattle.contracts.proofs.Uncut.{added-none, decided-cuts}
-use Rattle.contracts.proofs.Spots.{decided-most, spots-few, reserved}
+use Rattle.contracts.proofs.Spots.{decided-most, spots-few, spots-next}
 use Rattle.contracts.proofs.Verdicts.{fine-ready, planned-not, planned-none, planned-some}
 use Rattle.contracts.proofs.survey.Statement.{statement}
 use Rattle.contracts.proofs.survey.Tie as tie
@@ -31,6 +30,9 @@ decide-to-start c = told-to-start (decide-to-told c)
 
 abbrev spots-arg-to-decide : tie.After-spots-arg2 → tie.After-decide
 spots-arg-to-decide c = c .before .before .before .before .before .before
+
+abbrev spots-arg-to-then : tie.After-spots-arg2 → tie.Then1
+spots-arg-to-then c = c .before .before .before
 
 answer : (c : tie.After-enum-told)
     → Verdict.Fine
@@ -58,7 +60,7 @@ judge-requires c κs = (counts-to-start c .pre .0, added-none _ _ _)
 returns : tie.Need-returns
 returns c =
     let judged = c .before .before .before .before .before in
-    planned-not _ _ _ _ _ _ false 0 _ (judged .judge .ensures .answer) (c .enum-told2 .given .1)
+    planned-not _ _ _ _ _ (counts-to-start (judged .before) .pre .1) _ _ _ (judged .judge .ensures .answer) (c .enum-told2 .given .1)
 
 decide-requires : tie.Need-decide-requires
 decide-requires c κs =
@@ -78,14 +80,15 @@ returns-2 c =
     let spotted = c .before .before in
     let decided = spots-arg-to-decide (spotted .before) in
     let told = decide-to-told decided in
-    planned-some _ _ _ _ _ _ _ (told-to-judge told .judge .ensures .answer) (cuts decided)
-    (reserved _ _ (ready told) _ (cuts decided) _ (counted told) _ _ (spotted .spots .ensures .0) (spotted .spots .ensures .1))
+    let spots = spotted .spots .ensures in
+    planned-some _ _ _ _ _ (spots .long) _ _ (told-to-judge told .judge .ensures .answer) (cuts decided)
+    (spots-arg-to-then (spotted .before) .if1 .taken) (spots-next _ _ (ready told) _ (cuts decided) _ (counted told) _ spots)
 
 returns-3 : tie.Need-returns-3
 returns-3 c =
     let decided = c .before .before .before in
     let told = decide-to-told decided in
-    planned-none _ _ _ _ _ _ 0 (told-to-judge told .judge .ensures .answer) (cuts decided)
+    planned-none _ _ _ _ _ (decide-to-start decided .pre .1) _ _ (told-to-judge told .judge .ensures .answer) (cuts decided) (c .if1 .left)
     (λ b l. decided .decide .ensures .0 .cut b l ∙ decided .decide .ensures .1 (c .if1 .left) b l)
 
 pub survey-spec : {M : Type 1} → statement M
