@@ -3,7 +3,7 @@ use Prim.Native.Nat.{ℕ, _+_, _-_, _≤_, _<_}
 use native.Mathlib.Omega.{arith}
 use mathlib.Core.Bool.{_&&_, not}
 use mathlib.Core.List.{List}
-use mathlib.Core.Path.{_≡_, refl, ap, ap₂, _∙_, sym}
+use mathlib.Core.Path.{_≡_, ap, ap₂, _∙_, sym}
 use lib.Dec.{ltb}
 use lib.ListN.{length, take}
 use Rattle.sums.specs.Sums.{sum, first, pick}
@@ -38,21 +38,17 @@ module _ (h : Sheet) (n : ℕ) (e : agents h ≡ n) where
       (λ a l. ap (λ (k : ℕ). carriesLosses k && ltb (at imports a) (at exports a)) (kind a l)
       ∙ ap₂ (λ (x y : ℕ). carriesLosses (at (h .kinds) a) && ltb x y) (took a l) (gave a l)))
 
-  pub consumed-is : (used : List ℕ) → ((a : ℕ) → a < n → at used a ≡ consumption h a) → sum n (at used) ≡ consumed h
+  pub consumed-is : (used : ℕ → ℕ) → ((a : ℕ) → a < n → used a ≡ consumption h a) → sum n used ≡ consumed h
   unfolding consumed
   consumed-is used f = rw e (sum-eq n _ _ f)
 
-  pub entering-is : (given : List ℕ) → ((a : ℕ) → a < n → at given a ≡ delivered h a) → sum n (at given) ≡ entering h
+  pub entering-is : (given : ℕ → ℕ) → ((a : ℕ) → a < n → given a ≡ delivered h a) → sum n given ≡ entering h
   unfolding entering
   entering-is given f = rw e (sum-eq n _ _ f)
 
-  pub leaving-is : (used taken : List ℕ)
-      → ((a : ℕ) → a < n → at used a ≡ consumption h a)
-      → ((a : ℕ) → a < n → at taken a ≡ ownImport h a)
-      → sum n (at used) + sum n (at taken) ≡ leaving h
-  unfolding leaving
-  leaving-is used taken f g =
-      rw e (ap₂ _+_ (sum-eq n _ _ f) (sum-eq n _ _ g) ∙ sym (sum-add n (consumption h) (ownImport h)))
+  pub leaving-is : consumed h + sum n (ownImport h) ≡ leaving h
+  unfolding consumed leaving
+  leaving-is = rw e (sym (sum-add n (consumption h) (ownImport h)))
 
   -- the verdict by those numbers is the sheet's
   pub verdict-is : (over x y u : ℕ)
@@ -84,14 +80,6 @@ given-is h a k y p q = rw (p, q)
 pub injected-is : (h : Sheet) (a k y : ℕ) → k ≡ at (h .kinds) a → y ≡ delivered h a → pick (isOutside k) y ≡ injected h a
 unfolding injected outside
 injected-is h a k y p q = rw (p, q)
-
-pub commercial-is : (h : Sheet) (a : ℕ) → consumption h a + lossShare h a ≡ commercial h a
-unfolding commercial
-commercial-is h a = refl
-
--- a sum of two numbers fits by their other names
-pub fits-by : (x y v w : ℕ) → x ≡ v → y ≡ w → v + w ≤ 4294967295 → x + y ≤ 4294967295
-fits-by x y v w p q h = omega arith
 
 -- ---- all agents
 module _ (h : Sheet) where

@@ -5,12 +5,12 @@ use refusals::Refusal;
 use refusals::Verdict;
 use sheet::Counts;
 ghost use mathlib.Core.Path.{_≡_};
-ghost use mathlib.Core.Bool.{_&&_, _||_, not};
+ghost use mathlib.Core.Bool.{false, _&&_, _||_, not};
 ghost use Prim.Native.Nat.{ℕ, _+_, _-_, _≤_, _<_};
 ghost use lib.Dec.{ltb, eqb};
 ghost use lib.ListN.{length, take, set};
-ghost use Rattle.sums.specs.Sums.{sum, pick, first};
-ghost use Rattle.sums.specs.Lists.{at, Filled};
+ghost use Rattle.sums.specs.Sums.{pick, first};
+ghost use Rattle.sums.specs.Lists.{at};
 ghost use Rattle.refusals.specs.Refusals.{cells};
 ghost use Rattle.limits.specs.Limits.{mostAgents, mostFactor, mostReading};
 ghost use Rattle.rows.specs.Rows.{carriesLosses, isOutside};
@@ -21,7 +21,7 @@ ghost use Rattle.share.specs.Share.{Shared};
 ghost use Rattle.hour.specs.Balance.{referred, rounded};
 ghost use Rattle.hour.specs.Answer.{balanceVerdict};
 ghost use Rattle.balance.specs.Balances.{zeros, ledger, Weighing};
-ghost use Rattle.balance.specs.Parts.{mostExact, Metered, Read, weighedBy};
+ghost use Rattle.balance.specs.Parts.{mostExact, Metered, Read, Addable, Added, weighedBy};
 
 // What weighing answers beside the columns. A refused sheet has 0.
 pub struct Weight {
@@ -55,21 +55,6 @@ fn less(x: u64, y: u64) -> u64
     if x < y { 0 } else { x - y }
 }
 
-// The agents' kinds.
-fn kinds_of(s: &[u8], c: Counts, out: &mut [u32])
-    requires { ⌜ readOf (now s) ≡ Reading.Accepted c ⌝ }
-    requires { ⌜ c .agents ≤ length (now out) ⌝ }
-    ensures { λ _. ⌜ Filled 0 (now (out .entry)) (now (out .exit)) (c .agents) (at (columnsOf (now (s .entry)) c .kinds)) ⌝ }
-{
-    let section = sheet::asking::section_of(s, c, Agent::SECTION);
-    let n = c.agents;
-    let mut a = 0;
-    while a < n {
-        out[a] = rows::agent_of(octets::row_at(section, a)).kind;
-        a += 1;
-    }
-}
-
 // One reading more in the cell of its agent.
 fn add_reading(out: &mut [u64], a: usize, reading: u32, factor: u32)
     requires { ⌜ (a < length (now out)) × (at (now out) a ≤ mostExact) × (reading ≤ mostReading) × (factor ≤ mostFactor) ⌝ }
@@ -96,27 +81,36 @@ fn meter(s: &[u8], c: Counts, imports: &mut [u64], exports: &mut [u64])
     }
 }
 
-// What a retailer consumes, rounded once; 0 of a generator.
-fn of_retailer(kind: u32, import: u64, export: u64) -> u32
-    requires { ⌜ import ≤ mostExact ⌝ }
-    ensures { λ r. ⌜ r ≡ pick (carriesLosses kind) (rounded (import - export)) ⌝ }
-{
-    if rows::carries_losses(kind) {
-        to_whole(less(import, export))
-    } else {
-        0
-    }
+// What one agent took, delivered and consumed, in whole kWh: of a retailer what it consumed, of a generator the other two; and whether it
+// is a retailer that delivers more than it takes.
+struct Whole {
+    taken: u32,
+    given: u32,
+    used: u32,
+    over: bool,
 }
 
-// v of a generator, in whole kWh; 0 of a retailer.
-fn of_generator(kind: u32, v: u64) -> u32
-    requires { ⌜ v ≤ mostExact ⌝ }
-    ensures { λ r. ⌜ r ≡ pick (not (carriesLosses kind)) (rounded v) ⌝ }
+// A retailer's imports less its exports, rounded once; a generator's each by itself.
+fn whole_of(kind: u32, import: u64, export: u64) -> Whole
+    requires { ⌜ (import ≤ mostExact) × (export ≤ mostExact) ⌝ }
+    ensures { λ r. ⌜ (r .taken ≡ pick (not (carriesLosses kind)) (rounded import))
+        × (r .given ≡ pick (not (carriesLosses kind)) (rounded export))
+        × (r .used ≡ pick (carriesLosses kind) (rounded (import - export)))
+        × (r .over ≡ (carriesLosses kind && ltb import export)) ⌝ }
 {
     if rows::carries_losses(kind) {
-        0
-    } else {
-        to_whole(v)
+        return Whole {
+            taken: 0,
+            given: 0,
+            used: to_whole(less(import, export)),
+            over: import < export,
+        };
+    }
+    Whole {
+        taken: to_whole(import),
+        given: to_whole(export),
+        used: 0,
+        over: false,
     }
 }
 
@@ -127,80 +121,12 @@ fn of_small(kind: u32, v: u32) -> u32
     if rows::is_outside(kind) { v } else { 0 }
 }
 
-// A retailer's imports less its exports; nothing of a generator.
-fn consumptions(kinds: &[u32], imports: &[u64], exports: &[u64], n: usize, out: &mut [u32])
-    requires { ⌜ (n ≤ length (now kinds)) × (n ≤ length (now imports)) × (n ≤ length (now exports)) × (n ≤ length (now out)) ⌝ }
-    requires { ⌜ ((a : ℕ) → a < n → at (now imports) a ≤ mostExact) ⌝ }
-    ensures { λ _. ⌜ Filled 0 (now (out .entry)) (now (out .exit)) n
-        (λ a. pick (carriesLosses (at (now (kinds .entry)) a)) (rounded (at (now (imports .entry)) a - at (now (exports .entry)) a))) ⌝ }
-{
-    let mut a = 0;
-    while a < n {
-        out[a] = of_retailer(kinds[a], imports[a], exports[a]);
-        a += 1;
-    }
-}
-
-// What a column has of generators, in whole kWh; nothing of a retailer.
-fn generators(kinds: &[u32; Agent::MOST], values: &[u64; Agent::MOST], n: usize, out: &mut [u32])
-    requires { ⌜ (n ≤ mostAgents) × (n ≤ length (now out)) ⌝ }
-    requires { ⌜ ((a : ℕ) → a < n → at (now values) a ≤ mostExact) ⌝ }
-    ensures { λ _. ⌜ Filled 0 (now (out .entry)) (now (out .exit)) n
-        (λ a. pick (not (carriesLosses (at (now (kinds .entry)) a))) (rounded (at (now (values .entry)) a))) ⌝ }
-{
-    let mut a = 0;
-    while a < n {
-        out[a] = of_generator(kinds[a], values[a]);
-        a += 1;
-    }
-}
-
-// A small generator's exports are kept; nothing of any other agent.
-fn keep_small(kinds: &[u32; Agent::MOST], n: usize, out: &mut [u32])
-    requires { ⌜ (n ≤ mostAgents) × (n ≤ length (now out)) ⌝ }
-    ensures { λ _. ⌜ Filled 0 (now (out .entry)) (now (out .exit)) n
-        (λ a. pick (isOutside (at (now (kinds .entry)) a)) (at (now (out .entry)) a)) ⌝ }
-{
-    let mut a = 0;
-    while a < n {
-        out[a] = of_small(kinds[a], out[a]);
-        a += 1;
-    }
-}
-
-// Adds a column to another.
-fn add_to(xs: &[u32; Agent::MOST], n: usize, out: &mut [u32])
-    requires { ⌜ (n ≤ mostAgents) × (n ≤ length (now out)) ⌝ }
-    requires { ⌜ ((a : ℕ) → a < n → at (now out) a + at (now xs) a ≤ 4294967295) ⌝ }
-    ensures { λ _. ⌜ Filled 0 (now (out .entry)) (now (out .exit)) n (λ a. at (now (out .entry)) a + at (now (xs .entry)) a) ⌝ }
-{
-    let mut a = 0;
-    while a < n {
-        out[a] = out[a] + xs[a];
-        a += 1;
-    }
-}
-
 // An amount over the first n cells of a column.
 fn share_out(amount: u32, weights: &[u32], n: usize, out: &mut [u32]) -> Verdict
     requires { ⌜ n ≤ length (now weights) ⌝ }
     ensures { λ r. ⌜ Shared amount (take n (now (weights .entry))) (now (out .entry)) r (now (out .exit)) ⌝ }
 {
     share::share(amount, &weights[..n], out)
-}
-
-// The sum of a column's first n cells.
-fn total(values: &[u32; Agent::MOST], n: usize) -> u32
-    requires { ⌜ (n ≤ mostAgents) × (sum n (at (now values)) ≤ 4294967295) ⌝ }
-    ensures { λ r. ⌜ r ≡ sum n (at (now (values .entry))) ⌝ }
-{
-    let mut sum = 0;
-    let mut a = 0;
-    while a < n {
-        sum += values[a];
-        a += 1;
-    }
-    sum
 }
 
 // A retailer that delivers more than it takes.
@@ -211,13 +137,13 @@ fn is_over(kind: u32, import: u64, export: u64) -> bool
 }
 
 // The lowest such agent, or n.
-fn first_over(
-    kinds: &[u32; Agent::MOST],
-    imports: &[u64; Agent::MOST],
-    exports: &[u64; Agent::MOST],
+fn first_over<'a>(
+    kinds: &[u32],
+    imports: &'a [u64; Agent::MOST],
+    exports: &'a [u64; Agent::MOST],
     n: usize,
 ) -> usize
-    requires { ⌜ n ≤ mostAgents ⌝ }
+    requires { ⌜ (n ≤ mostAgents) × (n ≤ length (now kinds)) ⌝ }
     ensures { λ r. ⌜ r ≡ first n
         (λ a. carriesLosses (at (now (kinds .entry)) a) && ltb (at (now (imports .entry)) a) (at (now (exports .entry)) a)) ⌝ }
 {
@@ -227,6 +153,25 @@ fn first_over(
             return a;
         }
         a += 1;
+    }
+    n
+}
+
+// The same, looked for only where there is any.
+fn first_if<'a>(
+    any: bool,
+    kinds: &[u32],
+    imports: &'a [u64; Agent::MOST],
+    exports: &'a [u64; Agent::MOST],
+    n: usize,
+) -> usize
+    requires { ⌜ (n ≤ mostAgents) × (n ≤ length (now kinds)) × (any ≡ false → (a : ℕ) → a < n
+        → (carriesLosses (at (now kinds) a) && ltb (at (now imports) a) (at (now exports) a)) ≡ false) ⌝ }
+    ensures { λ r. ⌜ r ≡ first n
+        (λ a. carriesLosses (at (now (kinds .entry)) a) && ltb (at (now (imports .entry)) a) (at (now (exports .entry)) a)) ⌝ }
+{
+    if any {
+        return first_over(kinds, imports, exports, n);
     }
     n
 }
@@ -255,8 +200,61 @@ fn judge(over: usize, n: usize, entering: u32, leaving: u32, consumed: u32) -> V
     refusals::refuse(Refusal::UNSHARED, 0)
 }
 
-// What each agent is, took, delivered and consumed in whole kWh, each into its column; the first retailer that delivers more than it
-// takes, or n. The exact columns are gone when it is done.
+// What all agents come to: the first retailer that delivers more than it takes, or how many agents there are; the energy that enters the
+// system, what retailers consumed, and what generators took.
+struct Metering {
+    over: usize,
+    entering: u32,
+    consumed: u32,
+    drawn: u32,
+}
+
+// What each agent is, took, delivered and consumed in whole kWh, each into its column, by one pass over the agents.
+fn sort_out<'a>(
+    s: &[u8],
+    c: Counts,
+    imports: &'a [u64; Agent::MOST],
+    exports: &'a [u64; Agent::MOST],
+    kinds: &mut [u32],
+    taken: &mut [u32],
+    given: &mut [u32],
+    used: &mut [u32],
+) -> Metering
+    requires { ⌜ readOf (now s) ≡ Reading.Accepted c ⌝ }
+    requires { ⌜ Metered (columnsOf (now s) c) (now imports) (now exports) × (c .agents ≤ length (now kinds))
+        × (c .agents ≤ length (now taken)) × (c .agents ≤ length (now given)) × (c .agents ≤ length (now used)) ⌝ }
+    ensures { λ r. ⌜ Read (columnsOf (now (s .entry)) c) (c .agents) (now (kinds .entry)) (now (kinds .exit))
+        (now (taken .entry)) (now (taken .exit)) (now (given .entry)) (now (given .exit)) (now (used .entry)) (now (used .exit)) r ⌝ }
+{
+    let section = sheet::asking::section_of(s, c, Agent::SECTION);
+    let n = c.agents;
+    let mut any = false;
+    let mut entering: u32 = 0;
+    let mut consumed: u32 = 0;
+    let mut drawn: u32 = 0;
+    let mut a = 0;
+    while a < n {
+        let kind = rows::agent_of(octets::row_at(section, a)).kind;
+        let w = whole_of(kind, imports[a], exports[a]);
+        kinds[a] = kind;
+        taken[a] = w.taken;
+        given[a] = w.given;
+        used[a] = w.used;
+        any = any | w.over;
+        entering += w.given;
+        consumed += w.used;
+        drawn += w.taken;
+        a += 1;
+    }
+    Metering {
+        over: first_if(any, kinds, imports, exports, n),
+        entering,
+        consumed,
+        drawn,
+    }
+}
+
+// The same, the readings summed up before. The exact columns are gone when it is done.
 fn read_columns(
     s: &[u8],
     c: Counts,
@@ -264,20 +262,50 @@ fn read_columns(
     taken: &mut [u32; Agent::MOST],
     given: &mut [u32; Agent::MOST],
     used: &mut [u32; Agent::MOST],
-) -> usize
+) -> Metering
     requires { ⌜ readOf (now s) ≡ Reading.Accepted c ⌝ }
     ensures { λ r. ⌜ Read (columnsOf (now (s .entry)) c) (c .agents) (now (kinds .entry)) (now (kinds .exit))
         (now (taken .entry)) (now (taken .exit)) (now (given .entry)) (now (given .exit)) (now (used .entry)) (now (used .exit)) r ⌝ }
 {
-    let n = c.agents;
     let mut imports = [0u64; Agent::MOST];
     let mut exports = [0u64; Agent::MOST];
-    kinds_of(s, c, kinds);
     meter(s, c, &mut imports, &mut exports);
-    consumptions(kinds, &imports, &exports, n, used);
-    generators(kinds, &imports, n, taken);
-    generators(kinds, &exports, n, given);
-    first_over(kinds, &imports, &exports, n)
+    sort_out(s, c, &imports, &exports, kinds, taken, given, used)
+}
+
+// What retailers demand in all, and what small generators deliver.
+struct Demanded {
+    all: u32,
+    small: u32,
+}
+
+// What each agent consumed becomes its commercial demand with its share, and what it delivered its own energy: that demand, or what a small
+// generator delivers.
+fn add_shares(
+    kinds: &[u32; Agent::MOST],
+    shares: &[u32; Agent::MOST],
+    n: usize,
+    commercial: &mut [u32],
+    own: &mut [u32],
+) -> Demanded
+    requires { ⌜ (n ≤ mostAgents) × (n ≤ length (now commercial)) × (n ≤ length (now own))
+        × Addable (now kinds) (now shares) n (now commercial) (now own) ⌝ }
+    ensures { λ r. ⌜ Added (now (kinds .entry)) (now (shares .entry)) n (now (commercial .entry)) (now (commercial .exit))
+        (now (own .entry)) (now (own .exit)) r ⌝ }
+{
+    let mut all: u32 = 0;
+    let mut small: u32 = 0;
+    let mut a = 0;
+    while a < n {
+        let demand = commercial[a] + shares[a];
+        let delivered = of_small(kinds[a], own[a]);
+        commercial[a] = demand;
+        own[a] = demand + delivered;
+        all += demand;
+        small += delivered;
+        a += 1;
+    }
+    Demanded { all, small }
 }
 
 // The balance of a sheet that reading accepts with these counts, agent by agent, into the caller's columns; each of them serves for what
@@ -297,12 +325,9 @@ pub fn weigh_read(
         (ledger (now (kinds .exit)) (now (shares .exit)) (now (commercial .exit)) (now (own .exit)) (now (imports .exit))) r ⌝ }
 {
     let n = c.agents;
-    let over = read_columns(s, c, kinds, imports, own, commercial);
-    let entering = total(own, n);
-    let consumed = total(commercial, n);
-    let taken = total(imports, n);
-    let leaving = consumed + taken;
-    let verdict = judge(over, n, entering, leaving, consumed);
+    let m = read_columns(s, c, kinds, imports, own, commercial);
+    let leaving = m.consumed + m.drawn;
+    let verdict = judge(m.over, n, m.entering, leaving, m.consumed);
     let Verdict::Fine = verdict else {
         return Weight {
             verdict,
@@ -311,17 +336,14 @@ pub fn weigh_read(
             target: 0,
         };
     };
-    let losses = entering - leaving;
+    let losses = m.entering - leaving;
     share_out(losses, commercial, n, shares);
-    add_to(shares, n, commercial);
-    let demand = total(commercial, n) + taken;
-    keep_small(kinds, n, own);
-    let target = demand - total(own, n);
-    add_to(commercial, n, own);
+    let d = add_shares(kinds, shares, n, commercial, own);
+    let demand = d.all + m.drawn;
     Weight {
         verdict,
         losses,
         demand,
-        target,
+        target: demand - d.small,
     }
 }

@@ -36,7 +36,7 @@ loop-again c = (
 
 returns-2 : tie.Need-returns-2 Inv-loop μ-loop
 returns-2 c =
-    let e : (c .before) .loop .a ≡ (c .before .before) .args .n = omega arith in
+    let e : (c .before) .loop .a ≡ (c .before .before .before) .args .n = omega arith in
     sym (first-none _ _ (rw e at ((c .before) .loop .inv .1)))
 
 pub first-over-spec : {M : Type 1} → statement M

@@ -1,5 +1,4 @@
 use borrow.Author.Needs.{needs}
-use native.Mathlib.Omega.{arith}
 use Rattle.hour.specs.Balance.{rounded}
 use Rattle.balance.proofs.to_whole.Statement.{statement}
 use Rattle.balance.proofs.to_whole.Tie as tie
