@@ -11,10 +11,10 @@ use Rattle.sheet.specs.Reading.{kindAt, readOf}
 use Rattle.sheet.specs.Asking.{agentAt, boundaryAt, plantAt, contractAt}
 use Rattle.sheet.specs.declared.Counts.{Counts}
 use Rattle.sheet.specs.declared.Reading.{Reading}
-use Rattle.sheet.proofs.Accepted.{kind-of, accepted-few, accepted-boundary, accepted-plant, accepted-contract}
+use Rattle.sheet.proofs.Accepted.{kind-of, accepted-counts, accepted-few, accepted-boundary, accepted-plant, accepted-contract}
 use Rattle.hour.specs.Sheet.{agents, boundaries, plants, contracts, retails, outside}
 use Rattle.hour.specs.Sound.{Sound, BoundarySound, PlantSound, ContractSound}
-use Rattle.columns.specs.Columns.{columnsOf}
+use Rattle.columns.specs.Columns.{columnsOf, hourOf}
 
 -- ---- how many rows each section has
 module _ (s : List ℕ) (c : Counts) where
@@ -187,3 +187,8 @@ module _ (s : List ℕ) (c : Counts) where
           plant = plant-sound;
           contract = contract-sound;
         }
+
+    -- the sheet that its bytes hold
+    pub hour-is : hourOf s ≡ columnsOf s c
+    unfolding hourOf
+    hour-is = ap (columnsOf s) (sym (accepted-counts s c e))

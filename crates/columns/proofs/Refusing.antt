@@ -25,7 +25,7 @@ pub none-of : (lo hi : ℕ) (v : Verdict) → 0 < lo → Between lo hi v → num
 none-of lo hi Verdict.Fine l b e = refl
 none-of lo hi (Verdict.Refused r) l b e = absurd (omega (arith, b .0))
 
-or-none : (v w : Verdict)
+pub or-none : (v w : Verdict)
     → (numberOf v ≡ 0 → v ≡ Verdict.Fine)
     → (numberOf w ≡ 0 → w ≡ Verdict.Fine)
     → numberOf (orElse v w) ≡ 0

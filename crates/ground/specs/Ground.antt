@@ -1,14 +1,20 @@
 -- What settling and checking both stand on: whether an hour is settled at all, and the plants of a sheet by their columns.
 -- Assumes nothing.
 use Prim.Native.Nat.{ℕ}
-use mathlib.Core.List.{List}
+use mathlib.Core.Bool.{Bool}
+use mathlib.Core.List.{List, [], _∷_}
 use lib.IntN.{ℤ}
 use Rattle.sums.specs.Lists.{at, Filled}
+use Rattle.refusals.specs.Refusals.{noRoom, refusedUnless, firstOf}
 use Rattle.refusals.specs.declared.Verdict.{Verdict}
 use Rattle.hour.specs.Sheet.{Sheet}
-use Rattle.hour.specs.Answer.{lent, hourVerdict}
+use Rattle.hour.specs.Answer.{lent, balanceVerdict, coverVerdict, hourVerdict}
 
--- the verdict on the hour of the sheet h, for these four lists: refusals 7 to 10, 13 and 11
+-- the verdict on the hour of the sheet h: refusals 7 to 10 and 13, and 11 unless there is room
+unfoldable pub admissionWith : (h : Sheet) (room : Bool) → Verdict
+admissionWith h room = firstOf (balanceVerdict h ∷ coverVerdict h ∷ refusedUnless room noRoom 0 ∷ [])
+
+-- the same, for these four lists
 abbrev pub admission : (h : Sheet) (figures : List ℕ) (money : List ℤ) (schedule amounts : List ℕ) → Verdict
 admission h f m s a = hourVerdict h (lent f m s a)
 

@@ -8,22 +8,19 @@ use sheet::Counts;
 pub mod plants;
 
 ghost use mathlib.Core.Path.{_≡_};
-ghost use Prim.Native.Nat.{_≤_};
-ghost use Rattle.limits.specs.Limits.{mostAgents};
 ghost use Rattle.refusals.specs.declared.Verdict.{Verdict};
 ghost use Rattle.sheet.specs.Reading.{readOf};
 ghost use Rattle.sheet.specs.declared.Reading.{Reading};
 ghost use Rattle.columns.specs.Columns.{columnsOf};
 ghost use Rattle.balance.specs.Balances.{ledger, Weighing};
-ghost use Rattle.ground.specs.Ground.{admission};
+ghost use Rattle.ground.specs.Ground.{admission, admissionWith};
 ghost use Rattle.ground.specs.Parts.{roomy, lateVerdict, refusedWeight};
 
-// Lists as long as the counts ask for.
-fn has_room(c: Counts, figures: usize, money: usize, schedule: usize, amounts: usize) -> bool
-    requires { ⌜ c .agents ≤ mostAgents ⌝ }
+// Lists as long as the counts ask for. The figures are divided, not the cells multiplied: no count is too large for that.
+pub fn has_room(c: Counts, figures: usize, money: usize, schedule: usize, amounts: usize) -> bool
     ensures { λ r. ⌜ r ≡ roomy c figures money schedule amounts ⌝ }
 {
-    (Agent::CELLS * c.agents <= figures)
+    (c.agents <= figures / Agent::CELLS)
         & (c.agents <= money)
         & (c.plants <= schedule)
         & (c.contracts <= amounts)
@@ -57,7 +54,37 @@ fn turned_away(verdict: Verdict) -> Weight
 }
 
 // Whether the hour of a sheet that reading accepts with these counts is to be settled: refusals 7 to 9 as weighing has them, then 10, 13
-// and 11. Of the four lists the lengths are looked at, and nothing else. The columns are weighing's.
+// and 11. Whether there is room is the caller's word: of lists that it lends, or true of its own. The columns are weighing's.
+pub fn admit_with(
+    bytes: &[u8],
+    c: Counts,
+    kinds: &mut [u32; Agent::MOST],
+    shares: &mut [u32; Agent::MOST],
+    commercial: &mut [u32; Agent::MOST],
+    own: &mut [u32; Agent::MOST],
+    imports: &mut [u32; Agent::MOST],
+    room: bool,
+) -> Weight
+    requires { ⌜ readOf (now bytes) ≡ Reading.Accepted c ⌝ }
+    ensures { λ r. ⌜ Weighing (admissionWith (columnsOf (now (bytes .entry)) c) room) (columnsOf (now (bytes .entry)) c)
+        (ledger (now (kinds .entry)) (now (shares .entry)) (now (commercial .entry)) (now (own .entry)) (now (imports .entry)))
+        (ledger (now (kinds .exit)) (now (shares .exit)) (now (commercial .exit)) (now (own .exit)) (now (imports .exit)))
+        r ⌝ }
+{
+    let w = balance::weigh_read(bytes, c, kinds, shares, commercial, own, imports);
+    let weighed = w.verdict;
+    let Verdict::Fine = weighed else {
+        return w;
+    };
+    let offer = plants::offered(bytes, c);
+    let verdict = late(w.target, offer.available, offer.must, room);
+    let Verdict::Fine = verdict else {
+        return turned_away(verdict);
+    };
+    w
+}
+
+// The same for four lists: of these the lengths are looked at, and nothing else.
 pub fn admit(
     bytes: &[u8],
     c: Counts,
@@ -80,16 +107,6 @@ pub fn admit(
         (ledger (now (kinds .exit)) (now (shares .exit)) (now (commercial .exit)) (now (own .exit)) (now (imports .exit)))
         r ⌝ }
 {
-    let w = balance::weigh_read(bytes, c, kinds, shares, commercial, own, imports);
-    let weighed = w.verdict;
-    let Verdict::Fine = weighed else {
-        return w;
-    };
-    let offer = plants::offered(bytes, c);
     let room = has_room(c, figures.len(), money.len(), schedule.len(), amounts.len());
-    let verdict = late(w.target, offer.available, offer.must, room);
-    let Verdict::Fine = verdict else {
-        return turned_away(verdict);
-    };
-    w
+    admit_with(bytes, c, kinds, shares, commercial, own, imports, room)
 }

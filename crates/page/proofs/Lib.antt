@@ -1,2 +1,2 @@
-pub mod Paged
 pub mod Most
+pub mod Paged

@@ -1,6 +1,7 @@
 -- What the code puts together is the answer: the row asked for is the sheet's, with its schedule or amount. Assumes nothing.
 use Prim.Native.Nat.{ℕ, _≤_, _<_}
 use native.Mathlib.Omega.{arith}
+use mathlib.Core.Bool.{true}
 use mathlib.Core.List.{List}
 use mathlib.Core.Path.{_≡_, ap, _∙_, sym}
 use Rattle.sums.specs.Lists.{at}
@@ -14,11 +15,12 @@ use Rattle.sheet.specs.Asking.{plantAt, contractAt}
 use Rattle.sheet.specs.declared.Counts.{Counts}
 use Rattle.sheet.specs.declared.Reading.{Reading}
 use Rattle.columns.specs.Columns.{columnsOf, hourOf, sheetVerdict}
-use Rattle.columns.proofs.Columns.{agents-long, plants-long, contracts-long, must-at}
+use Rattle.columns.proofs.Columns.{plants-long, contracts-long, sound, hour-is, must-at}
 use Rattle.columns.proofs.Columns.{offer-at, available-at, buyer-at, price-at, quantity-at}
-use Rattle.hour.specs.Sheet.{agents, plants, contracts}
+use Rattle.hour.specs.Sheet.{agents, plants, contracts, retails}
+use Rattle.hour.specs.Sound.{ContractSound}
 use Rattle.hour.specs.Balance.{commercial}
-use Rattle.hour.specs.Lines.{scheduled, bolsaPrice, amount}
+use Rattle.hour.specs.Lines.{scheduled, bolsaPrice, amount, own}
 use Rattle.hour.specs.declared.Summary.{Summary}
 use Rattle.reasons.specs.Reasons.{plantReasonBy, plantReason, plantCase, contractReason}
 use Rattle.reasons.specs.Reasons.{contractCase, plantWhy, contractWhy}
@@ -29,7 +31,7 @@ use Rattle.reasons.specs.declared.PlantWhy.{PlantWhy}
 use Rattle.reasons.specs.declared.ContractReason.{ContractReason}
 use Rattle.reasons.specs.declared.ContractCase.{ContractCase}
 use Rattle.reasons.specs.declared.ContractWhy.{ContractWhy}
-use Rattle.reasons.proofs.Asked.{hour-is, why-refused, why-unread, why-absent, why-there}
+use Rattle.reasons.proofs.Asked.{why-refused, why-unread, why-absent, why-there}
 use Rattle.reasons.proofs.Owned.{reason-is}
 
 -- ---- turned away
@@ -93,7 +95,7 @@ module _ (bytes : List ℕ) (c : Counts) (e : readOf bytes ≡ Reading.Accepted 
   contract-there l = omega (arith, contract-count)
 
   -- what the lists of the settlement hold of it, and of a buyer
-  module _ (ds s s′ a a′ : List ℕ) (r : Summary) (w : HourSettled bytes ds s s′ a a′ r) where
+  module _ (os s s′ a a′ : List ℕ) (r : Summary) (w : HourSettled bytes os s s′ a a′ r) where
     pub schedule-at : i < c .plants → at s′ i ≡ scheduled (hourOf bytes) i
     schedule-at l = w .schedule .done i (rw fine (plant-there l))
 
@@ -103,11 +105,22 @@ module _ (bytes : List ℕ) (c : Counts) (e : readOf bytes ≡ Reading.Accepted 
     pub price-told : r .price ≡ bolsaPrice (hourOf bytes)
     price-told = ap (λ (x : Summary). x .price) (rw fine at (w .answer))
 
-    pub demand-at : (b : ℕ) → b < c .agents → at ds b ≡ commercial (hourOf bytes) b
-    demand-at b l = w .demands fine b (omega (arith, count))
+    -- the own energy of its buyer, who is a retailer
+    pub demand-at : i < c .contracts → (b : ℕ) → b ≡ contractAt bytes c i .buyer → at os b ≡ commercial (hourOf bytes) b
+    unfolding own
+    demand-at l b is = w .own fine b there ∙ rw retailer
       where
-        count : agents (hourOf bytes) ≡ c .agents
-        count = rw hour (agents-long bytes c)
+        buyer : b ≡ at (hourOf bytes .deals .buyers) i
+        buyer = rw hour (is ∙ sym (buyer-at bytes c i l))
+
+        its : ContractSound (hourOf bytes) i
+        its = rw hour (sound bytes c e .contract i (omega (arith, contracts-long bytes c)))
+
+        there : b < agents (hourOf bytes)
+        there = rw buyer (its .buyerThere)
+
+        retailer : retails (hourOf bytes) b ≡ true
+        retailer = rw buyer (its .retailer)
 
   -- a plant that is there, with its schedule q and the price x
   pub plant-told : (l : i < c .plants) (p : Plant) → p ≡ plantAt bytes c i

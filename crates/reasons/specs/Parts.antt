@@ -13,8 +13,7 @@ use Rattle.sheet.specs.Asking.{contractAt}
 use Rattle.sheet.specs.declared.Counts.{Counts}
 use Rattle.deals.specs.Deals.{fixed, conditional, demanded, stands}
 use Rattle.hour.specs.Sheet.{agents, plants, contracts}
-use Rattle.hour.specs.Balance.{commercial}
-use Rattle.hour.specs.Lines.{scheduled, amount}
+use Rattle.hour.specs.Lines.{scheduled, amount, own}
 use Rattle.hour.specs.Answer.{summaryOf}
 use Rattle.hour.specs.declared.Summary.{Summary}
 use Rattle.columns.specs.Columns.{hourOf, sheetVerdict}
@@ -22,10 +21,10 @@ use Rattle.reasons.specs.Reasons.{conditionalReason, demandedReason}
 use Rattle.reasons.specs.declared.passes.Part.{Part}
 use Rattle.reasons.specs.declared.ContractReason.{ContractReason}
 
--- the hour settled: its summary, and what its lists hold, ds of the commercial demands, s of the schedule and a of the amounts before it
-pub record HourSettled (bytes ds s s′ a a′ : List ℕ) (r : Summary) : Type 0 where
+-- the hour settled: its summary, and what its lists hold, os of own energy, s of the schedule and a of the amounts before it
+pub record HourSettled (bytes os s s′ a a′ : List ℕ) (r : Summary) : Type 0 where
   pub answer : r ≡ summaryOf (sheetVerdict bytes) (hourOf bytes)
-  pub demands : sheetVerdict bytes ≡ Verdict.Fine → (b : ℕ) → b < agents (hourOf bytes) → at ds b ≡ commercial (hourOf bytes) b
+  pub own : sheetVerdict bytes ≡ Verdict.Fine → (b : ℕ) → b < agents (hourOf bytes) → at os b ≡ own (hourOf bytes) b
   pub schedule : Filled 0 s s′ (cells (sheetVerdict bytes) (plants (hourOf bytes))) (scheduled (hourOf bytes))
   pub amounts : Filled 0 a a′ (cells (sheetVerdict bytes) (contracts (hourOf bytes))) (amount (hourOf bytes))
 

@@ -14,7 +14,6 @@ use limits::Agent;
 use limits::Contract;
 use limits::Plant;
 use refusals::Refusal;
-use refusals::Verdict;
 use sheet::Counts;
 use sheet::Reading;
 
@@ -134,52 +133,36 @@ fn judge_plant(scheduled: u32, must: u32, available: u32) -> PlantReason
     PlantReason::Beyond
 }
 
-// Weighs an accepted sheet and trades with lists of our own, which have room for every sheet; no agent's line is asked for. Schedule,
-// amounts and the agents' commercial demands are kept: trading has a copy of these.
+// Weighs an accepted sheet and trades, as `settle_columns` does (`trade` says why it has two callers), with lists of our own, which have
+// room for every sheet; no agent's line is asked for. Schedule, amounts and each agent's own energy are kept: a buyer's is its commercial
+// demand.
 fn settle_hour(
     bytes: &[u8],
     c: Counts,
-    commercial: &mut [u32; Agent::MOST],
+    own: &mut [u32; Agent::MOST],
     schedule: &mut [u32],
     amounts: &mut [u32],
 ) -> Summary
     requires { ⌜ readOf (now bytes) ≡ Reading.Accepted c ⌝ }
-    requires { ⌜ (now commercial ≡ zeros) × (mostPlants ≤ length (now schedule)) × (mostContracts ≤ length (now amounts)) ⌝ }
-    ensures { λ r. ⌜ HourSettled (now (bytes .entry)) (now (commercial .exit)) (now (schedule .entry)) (now (schedule .exit))
+    requires { ⌜ (now own ≡ zeros) × (mostPlants ≤ length (now schedule)) × (mostContracts ≤ length (now amounts)) ⌝ }
+    ensures { λ r. ⌜ HourSettled (now (bytes .entry)) (now (own .exit)) (now (schedule .entry)) (now (schedule .exit))
         (now (amounts .entry)) (now (amounts .exit)) r ⌝ }
 {
-    let figures = [0u32; Agent::CELLS * Agent::MOST];
-    let money = [0i64; Agent::MOST];
     let mut kinds = [0u32; Agent::MOST];
     let mut shares = [0u32; Agent::MOST];
-    let mut own = [0u32; Agent::MOST];
+    let mut held = [0u32; Agent::MOST];
     let mut imports = [0u32; Agent::MOST];
-    let w = ground::admit(
+    let w = ground::admit_with(
         bytes,
         c,
         &mut kinds,
         &mut shares,
-        commercial,
-        &mut own,
+        &mut held,
+        own,
         &mut imports,
-        &figures,
-        &money,
-        schedule,
-        amounts,
+        true,
     );
-    let verdict = w.verdict;
-    if let Verdict::Refused(r) = verdict {
-        return settle::turned_away(r);
-    }
-    let mut column = *commercial;
-    let price = settle::trade(bytes, c, &mut column, w.target, &mut own, schedule, amounts);
-    Summary {
-        number: 0,
-        place: 0,
-        price,
-        demand: w.demand,
-        losses: w.losses,
-    }
+    settle::trade(bytes, c, w, &mut held, own, schedule, amounts)
 }
 
 // Of an accepted sheet.
@@ -189,8 +172,8 @@ fn why_plant_read(bytes: &[u8], c: Counts, plant: u32) -> PlantWhy
 {
     let mut schedule = [0u32; Plant::MOST];
     let mut amounts = [0u32; Contract::MOST];
-    let mut commercial = [0u32; Agent::MOST];
-    let hour = settle_hour(bytes, c, &mut commercial, &mut schedule, &mut amounts);
+    let mut own = [0u32; Agent::MOST];
+    let hour = settle_hour(bytes, c, &mut own, &mut schedule, &mut amounts);
     if hour.number != 0 {
         return PlantWhy::Refused(Refusal {
             number: hour.number,
@@ -232,8 +215,8 @@ fn why_contract_read(bytes: &[u8], c: Counts, contract: u32) -> ContractWhy
 {
     let mut schedule = [0u32; Plant::MOST];
     let mut amounts = [0u32; Contract::MOST];
-    let mut commercial = [0u32; Agent::MOST];
-    let hour = settle_hour(bytes, c, &mut commercial, &mut schedule, &mut amounts);
+    let mut own = [0u32; Agent::MOST];
+    let hour = settle_hour(bytes, c, &mut own, &mut schedule, &mut amounts);
     if hour.number != 0 {
         return ContractWhy::Refused(Refusal {
             number: hour.number,
@@ -249,7 +232,7 @@ fn why_contract_read(bytes: &[u8], c: Counts, contract: u32) -> ContractWhy
     }
     let k = rows::contract_of(octets::row_at(bytes, c.agents + c.boundaries + c.plants + j));
     ContractWhy::Because(ContractCase {
-        reason: passes::judge(bytes, c, k, j, commercial[k.buyer as usize]),
+        reason: passes::judge(bytes, c, k, j, own[k.buyer as usize]),
         quantity: k.quantity,
         amount: amounts[j],
         price: k.price,

@@ -5,14 +5,16 @@ use mathlib.Core.Path.{_≡_}
 use lib.ListN.{length}
 use Rattle.sums.specs.Sums.{sum, keyed}
 use Rattle.sums.specs.Lists.{at, listTo, Filled}
+use Rattle.refusals.specs.Refusals.{cells}
 use Rattle.refusals.specs.declared.Refusal.{Refusal}
 use Rattle.refusals.specs.declared.Verdict.{Verdict}
 use Rattle.limits.specs.Limits.{mostAgents, mostPlants, mostContracts, mostAvailable, mostQuantity}
 use Rattle.balance.specs.Balances.{zeros, unscheduled}
+use Rattle.balance.specs.declared.Weight.{Weight}
 use Rattle.contracts.specs.Assign.{countIn, dealIn}
 use Rattle.hour.specs.Sheet.{Sheet, agents, plants, contracts}
-use Rattle.hour.specs.Balance.{demands, dispatchDemand}
-use Rattle.hour.specs.Answer.{balanceVerdict}
+use Rattle.hour.specs.Balance.{losses, lossShare, commercial, ownImport, demands, hourDemand, dispatchDemand}
+use Rattle.hour.specs.Answer.{balanceVerdict, summaryOf}
 use Rattle.hour.specs.Lines.{scheduled, bolsaPrice, amount, own, contracted}
 use Rattle.hour.specs.declared.Summary.{Summary}
 
@@ -82,7 +84,37 @@ pub record Agrees (h : Sheet) (cs before after : List ℕ) : Type 0 where
   pub contracted : Filled 0 zeros cs (agents h) (contracted h)
   pub amounts : Filled 0 before after (contracts h) (amount h)
 
--- both, with the price x
-pub record Trades (h : Sheet) (x : ℕ) (os cs schedule₀ schedule amounts₀ amounts : List ℕ) : Type 0 where
-  pub generates : Generates h x os schedule₀ schedule
-  pub agrees : Agrees h cs amounts₀ amounts
+-- ---- the hour of the sheet h, but for its lines
+
+-- weighed, and turned away by nothing: what w tells of it, the demands and own energy in columns, and cells for plants and contracts
+pub record Tradable (h : Sheet) (w : Weight) (ds os : List ℕ) (forPlants forContracts : ℕ) : Type 0 where
+  pub covered : Covered h (w .target) forPlants os
+  pub demands : (a : ℕ) → a < agents h → at ds a ≡ commercial h a
+  pub fits : contracts h ≤ forContracts
+  pub demand : w .demand ≡ hourDemand h
+  pub losses : w .losses ≡ losses h
+
+-- by its verdict v: the summary r; where it is fine each agent's own energy and what it holds; and schedule and amounts, as they were
+-- where it is refused
+pub record Trades (v : Verdict) (h : Sheet) (os cs schedule₀ schedule₁ amounts₀ amounts₁ : List ℕ) (r : Summary) : Type 0 where
+  pub answered : r ≡ summaryOf v h
+  pub own : v ≡ Verdict.Fine → (a : ℕ) → a < agents h → at os a ≡ own h a
+  pub held : v ≡ Verdict.Fine → (a : ℕ) → a < agents h → at cs a ≡ contracted h a
+  pub schedule : Filled 0 schedule₀ schedule₁ (cells v (plants h)) (scheduled h)
+  pub amounts : Filled 0 amounts₀ amounts₁ (cells v (contracts h)) (amount h)
+
+-- what the lines of n agents are made of, in columns: kinds, loss shares, own energy, own imports, and what is held under contract
+pub record LineColumns (h : Sheet) (n : ℕ) (ks ss os is cs : List ℕ) : Type 0 where
+  pub kinds : (a : ℕ) → a < n → at ks a ≡ at (h .kinds) a
+  pub shares : (a : ℕ) → a < n → at ss a ≡ lossShare h a
+  pub own : (a : ℕ) → a < n → at os a ≡ own h a
+  pub imports : (a : ℕ) → a < n → at is a ≡ ownImport h a
+  pub held : (a : ℕ) → a < n → at cs a ≡ contracted h a
+
+-- the same, with all columns that lines are made of
+pub record SettledColumns (v : Verdict) (h : Sheet) (n : ℕ) (ks ss os is cs schedule₀ schedule₁ amounts₀ amounts₁ : List ℕ)
+    (r : Summary) : Type 0 where
+  pub answered : r ≡ summaryOf v h
+  pub columns : v ≡ Verdict.Fine → LineColumns h n ks ss os is cs
+  pub schedule : Filled 0 schedule₀ schedule₁ (cells v (plants h)) (scheduled h)
+  pub amounts : Filled 0 amounts₀ amounts₁ (cells v (contracts h)) (amount h)

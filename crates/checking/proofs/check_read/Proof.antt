@@ -9,8 +9,8 @@ use Rattle.columns.specs.Columns.{columnsOf}
 use Rattle.columns.proofs.Columns.{agents-long}
 use Rattle.hour.specs.Sheet.{Sheet}
 use Rattle.hour.specs.Answer.{Lent, lent, hourVerdict}
-use Rattle.balance.specs.Balances.{zeros, Ledger, ledger}
-use Rattle.ground.proofs.Admitted.{Open, opened}
+use Rattle.balance.specs.Balances.{Ledger, ledger}
+use Rattle.ground.proofs.Admitted.{fine-room}
 use Rattle.checking.proofs.Refusing.{turned, points-left, weighs}
 use Rattle.checking.proofs.check_read.Statement.{statement}
 use Rattle.checking.proofs.check_read.Tie as tie
@@ -61,11 +61,6 @@ abbrev columns : tie.After-admit → Ledger
 columns c =
     let l = c .admit .last .1 .1 in ledger (l .0) (l .1 .0) (l .1 .1 .0) (l .1 .1 .1 .0) (l .1 .1 .1 .1 .0)
 
-clear : (c : tie.After-enum-told)
-    → Open (sheet (told-to-start c)) (lists (told-to-start c)) (ledger zeros zeros zeros zeros zeros) (columns (told-to-admit c))
-    (told-to-admit c .admit .result)
-clear c = opened _ _ _ _ _ (told-to-admit c .admit .ensures) (fine c)
-
 differences-requires : tie.Need-differences-requires
 differences-requires c κs = let s = told-to-start (used-to-told c) in (few s, few s)
 
@@ -78,11 +73,11 @@ points-requires c κs =
     let u = injected-to-used i in
     let t = used-to-told u in
     let s = told-to-start t in
-    let o = clear t in (
+    let w = told-to-admit t .admit .ensures in (
       s .pre,
       (
-        o .room,
-        weighs (sheet s) _ (agents-long _ _) _ (columns (told-to-admit t)) _ (o .columns) (o .losses) _ _
+        fine-room _ _ (fine t),
+        weighs (sheet s) _ (agents-long _ _) _ (columns (told-to-admit t)) _ (w .columns (fine t)) (rw (fine t) at (w .losses)) _ _
             ((i .before .before .before .before) .differences .ensures)
             ((c .before .before .before .before .before) .differences2 .ensures),
       ),

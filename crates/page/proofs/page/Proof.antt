@@ -1,7 +1,7 @@
 use mathlib.Core.Path.{_≡_, sym, _∙_}
 use borrow.Author.Needs.{needs}
 use denote.Ref.{now}
-use Rattle.page.proofs.Paged.{refused-read}
+use Rattle.page.proofs.Paged.{refused-sheet, unread-sheet}
 use Rattle.page.proofs.page.Statement.{statement}
 use Rattle.page.proofs.page.Tie as tie
 
@@ -17,8 +17,8 @@ returns-2 c =
     let at-why = c .before .before .before .before .before in
     let at-read = at-why .before .before in
     let at-start = at-read .before .before .before in
-    rw (refused-read (now (at-start .args .sheet)) (at-why .why .given .0 .0)
-    (sym (at-read .read .ensures) ∙ at-why .why .given .1))
+    let bytes = now (at-start .args .sheet) in
+    rw (refused-sheet bytes _ (unread-sheet bytes (at-why .why .given .0 .0) (sym (at-read .read .ensures) ∙ at-why .why .given .1)))
     ((c .before .before) .refused-page .ensures)
 
 pub page-spec : {M : Type 1} → statement M

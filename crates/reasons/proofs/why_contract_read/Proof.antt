@@ -11,7 +11,8 @@ use Rattle.octets.specs.declared.Words.{Words}
 use Rattle.sheet.specs.Asking.{contractAt}
 use Rattle.sheet.proofs.Accepted.{accepted-few, accepted-contract}
 use Rattle.columns.specs.Columns.{hourOf, sheetVerdict}
-use Rattle.reasons.proofs.Asked.{summary-refused, summary-fine}
+use Rattle.columns.proofs.Refusing.{none-fine}
+use Rattle.settle.proofs.Judged.{summary-refused, summary-fine}
 use Rattle.reasons.proofs.Told.{contract-refused, contract-absent, contract-told, amount-at, demand-at}
 use Rattle.reasons.proofs.why_contract_read.Statement.{statement}
 use Rattle.reasons.proofs.why_contract_read.Tie as tie
@@ -39,8 +40,8 @@ judge-to-contract-of c = c .before .before
 fine : (c : tie.Else1) → sheetVerdict (now (settle-hour-to-start (else1-to-settle-hour c) .args .bytes)) ≡ Verdict.Fine
 fine c =
     let w = else1-to-settle-hour c .settle-hour in
-    summary-fine _ (hourOf (now (settle-hour-to-start (else1-to-settle-hour c) .args .bytes))) (w .result) (w .ensures .answer)
-    (c .if1 .left)
+    let bytes = now (settle-hour-to-start (else1-to-settle-hour c) .args .bytes) in
+    summary-fine (sheetVerdict bytes) (hourOf bytes) (w .result) (w .ensures .answer) (none-fine bytes) (c .if1 .left)
 
 -- behind the second the contract is there
 there : (c : tie.Else2) → else2-to-start c .args .contract < else2-to-start c .args .c .contracts
@@ -119,7 +120,8 @@ returns-3 c =
     contract-told (now (a .bytes)) (a .c) (at-start .pre) ok (a .contract) (there at-else2) (at-row .contract-of .result)
     (row at-row) _ _
     (amount-at (now (a .bytes)) (a .c) (at-start .pre) ok (a .contract) _ _ _ _ _ (w .result) (w .ensures) (there at-else2))
-    (demand-at (now (a .bytes)) (a .c) (at-start .pre) ok (a .contract) _ _ _ _ _ (w .result) (w .ensures) _ (buyer at-row))
+    (demand-at (now (a .bytes)) (a .c) (at-start .pre) ok (a .contract) _ _ _ _ _ (w .result) (w .ensures) (there at-else2) _
+    (ap (λ (k : Contract). k .buyer) (row at-row)))
     (c .judge .result) (c .judge .ensures)
 
 pub why-contract-read-spec : {M : Type 1} → statement M

@@ -8,7 +8,8 @@ use Rattle.rows.specs.Rows.{plantOf}
 use Rattle.octets.specs.declared.Words.{Words}
 use Rattle.sheet.proofs.Accepted.{accepted-few}
 use Rattle.columns.specs.Columns.{hourOf, sheetVerdict}
-use Rattle.reasons.proofs.Asked.{summary-refused, summary-fine}
+use Rattle.columns.proofs.Refusing.{none-fine}
+use Rattle.settle.proofs.Judged.{summary-refused, summary-fine}
 use Rattle.reasons.proofs.Told.{plant-refused, plant-absent, plant-told, schedule-at, price-told}
 use Rattle.reasons.proofs.why_plant_read.Statement.{statement}
 use Rattle.reasons.proofs.why_plant_read.Tie as tie
@@ -33,8 +34,8 @@ judge-plant-to-else2 c = c .before .before .before .before
 fine : (c : tie.Else1) → sheetVerdict (now (settle-hour-to-start (else1-to-settle-hour c) .args .bytes)) ≡ Verdict.Fine
 fine c =
     let w = else1-to-settle-hour c .settle-hour in
-    summary-fine _ (hourOf (now (settle-hour-to-start (else1-to-settle-hour c) .args .bytes))) (w .result) (w .ensures .answer)
-    (c .if1 .left)
+    let bytes = now (settle-hour-to-start (else1-to-settle-hour c) .args .bytes) in
+    summary-fine (sheetVerdict bytes) (hourOf bytes) (w .result) (w .ensures .answer) (none-fine bytes) (c .if1 .left)
 
 -- behind the second the plant is there
 there : (c : tie.Else2) → else2-to-start c .args .plant < else2-to-start c .args .c .plants

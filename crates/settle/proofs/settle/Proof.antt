@@ -34,8 +34,8 @@ returns-2 c =
     let at-read = at-why .before .before in
     let at-start = at-read .before .before .before .before .before in
     rw (c .turned-away .ensures)
-    (turned-away (verdictOf (bytes at-start) (lists at-start)) _ _ _
-    (refused-read (bytes at-start) (lists at-start) _ (sym (at-read .read .ensures) ∙ at-why .why .given .1)))
+    (turned-away (verdictOf (bytes at-start) (lists at-start)) _
+    (refused-read (bytes at-start) (lists at-start) _ (sym (at-read .read .ensures) ∙ at-why .why .given .1)) _ _)
 
 pub settle-spec : {M : Type 1} → statement M
 settle-spec =
