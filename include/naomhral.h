@@ -6,9 +6,9 @@
  *     cc -Iinclude your.c target/staticlib/libcapi.a
  *
  * It is for x86-64 Linux. It keeps nothing between calls, takes no memory of its own but the stack, and may be called from several
- * threads at once, each with lists of its own. Over the recorded hours settling stays under 8 KiB of stack, a day under 9, a page under
- * 12, a check under 23, a sheet's text under 72, a sheet made from it under 12, a statement's text under 39 and reading that under 1, with
- * all symbols bound before; the dynamic linker takes some 3 KiB more where it binds them in the first call.
+ * threads at once, each with lists of its own. Over the recorded hours settling and a day stay under 7 KiB of stack, a page under 8, a
+ * check under 23, a sheet's text under 72, a sheet made from it under 12, a statement's text under 37 and reading that under 1, with all
+ * symbols bound before; the dynamic linker takes some 3 KiB more where it binds them in the first call.
  *
  * A list is lent by the place of its first cell and the count of its cells (bytes, for lists of bytes). The place is not NULL, even
  * for a list of no cells, and is aligned as C asks of the cell's type. A list that is written (not const) must not overlap any

@@ -5,13 +5,13 @@ use std::process::Command;
 
 /// Each call with the bytes that it stays under.
 const MOST: [(&str, usize); 8] = [
-    ("settle", 8 << 10),
-    ("page", 12 << 10),
+    ("settle", 7 << 10),
+    ("page", 8 << 10),
     ("check", 23 << 10),
-    ("day", 9 << 10),
+    ("day", 7 << 10),
     ("sheet_text", 72 << 10),
     ("make_sheet", 12 << 10),
-    ("statement_text", 39 << 10),
+    ("statement_text", 37 << 10),
     ("read_statement", 1 << 10),
 ];
 
