@@ -45,13 +45,13 @@ abbrev pub ofSmall : (kinds own : List ℕ) → ℕ → ℕ
 ofSmall k o a = pick (isOutside (at k a)) (at o a)
 
 -- neither these nor their sums are too large
-pub record Addable (kinds shares : List ℕ) (n : ℕ) (commercial own : List ℕ) : Type 0 where
+pub record SharesFit (kinds shares : List ℕ) (n : ℕ) (commercial own : List ℕ) : Type 0 where
   pub each : (a : ℕ) → a < n → withShare commercial shares a + ofSmall kinds own a ≤ 4294967295
   pub all : sum n (withShare commercial shares) ≤ 4294967295
   pub small : sum n (ofSmall kinds own) ≤ 4294967295
 
 -- the columns with both, and their sums
-pub record Added (kinds shares : List ℕ) (n : ℕ) (c₀ c o₀ o : List ℕ) (r : Demanded) : Type 0 where
+pub record WithShares (kinds shares : List ℕ) (n : ℕ) (c₀ c o₀ o : List ℕ) (r : Demanded) : Type 0 where
   pub commercial : Filled 0 c₀ c n (withShare c₀ shares)
   pub own : Filled 0 o₀ o n (λ a. withShare c₀ shares a + ofSmall kinds o₀ a)
   pub all : r .all ≡ sum n (withShare c₀ shares)

@@ -21,7 +21,7 @@ ghost use Rattle.share.specs.Share.{Shared};
 ghost use Rattle.hour.specs.Balance.{referred, rounded};
 ghost use Rattle.hour.specs.Answer.{balanceVerdict};
 ghost use Rattle.balance.specs.Balances.{zeros, ledger, Weighing};
-ghost use Rattle.balance.specs.Parts.{mostExact, Metered, Read, Addable, Added, weighedBy};
+ghost use Rattle.balance.specs.Parts.{mostExact, Metered, Read, SharesFit, WithShares, weighedBy};
 
 // What weighing answers beside the columns. A refused sheet has 0.
 pub struct Weight {
@@ -289,8 +289,8 @@ fn add_shares(
     own: &mut [u32],
 ) -> Demanded
     requires { ⌜ (n ≤ mostAgents) × (n ≤ length (now commercial)) × (n ≤ length (now own))
-        × Addable (now kinds) (now shares) n (now commercial) (now own) ⌝ }
-    ensures { λ r. ⌜ Added (now (kinds .entry)) (now (shares .entry)) n (now (commercial .entry)) (now (commercial .exit))
+        × SharesFit (now kinds) (now shares) n (now commercial) (now own) ⌝ }
+    ensures { λ r. ⌜ WithShares (now (kinds .entry)) (now (shares .entry)) n (now (commercial .entry)) (now (commercial .exit))
         (now (own .entry)) (now (own .exit)) r ⌝ }
 {
     let mut all: u32 = 0;

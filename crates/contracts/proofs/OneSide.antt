@@ -16,7 +16,7 @@ use Rattle.contracts.specs.Assign.{countIn, dealIn, dealsIn}
 use Rattle.contracts.specs.Keys.{dealKey, lowKey, keyIn, wholes, isFixed, keyGroup, keyRow, priceSpan, sideSpan, rowSpan, Ready}
 use Rattle.contracts.specs.Sides.{sideOf, Picked, FrontKeys, Cut}
 use Rattle.contracts.specs.Walk.{quantityOf, quantitiesOf, between, Scattered, Rowed, firmAmount}
-use Rattle.contracts.specs.Walk.{Group, groupAmount, GivenAt, Walked, Rising}
+use Rattle.contracts.specs.Walk.{Group, groupAmount, GivenAt, Walked, RisingKeys}
 use Rattle.contracts.proofs.OwnKeys.{firmSum}
 use Rattle.contracts.proofs.Walks.{part-long, part-at}
 use Rattle.contracts.proofs.Section.{few-rows, section-picked, section-rowed, section-firm, section-group, section-back}
@@ -118,7 +118,7 @@ module _ (s ds : List ℕ) (ready : Ready (dealsIn s) ds) (b t : ℕ) (bit : t �
             (row-at v ks q (omega arith) ∙ e ∙ sym (row-at v ks r z));
       }
 
-  pub side-rising : (most : ℕ) → countIn s ≤ most → Rising ks most
+  pub side-rising : (most : ℕ) → countIn s ≤ most → RisingKeys ks most
   side-rising most h =
       record {
         rowed = side-rowed most h;

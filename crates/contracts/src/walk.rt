@@ -10,7 +10,8 @@ ghost use Rattle.sums.specs.Lists.{at, total, Filled};
 ghost use Rattle.limits.specs.Limits.{mostContracts};
 ghost use Rattle.share.specs.Share.{shareOf};
 ghost use Rattle.contracts.specs.Keys.{isFixed, keyRow};
-ghost use Rattle.contracts.specs.Walk.{quantityOf, quantitiesOf, Scattered, Rowed, firmAmount, Group, groupAmount, Walked, Rising};
+ghost use Rattle.contracts.specs.Walk.{quantityOf, quantitiesOf, Scattered, Rowed, firmAmount};
+ghost use Rattle.contracts.specs.Walk.{Group, groupAmount, Walked, RisingKeys};
 
 // What is left of a retailer's demand.
 pub struct Tally {
@@ -205,7 +206,7 @@ fn group_end(keys: &[u32], p: usize) -> usize
 }
 
 pub(crate) fn serve_asked(section: &[u8], keys: &[u32], left: u32, out: &mut [u32])
-    requires { ⌜ Rising (now keys) (length (now out)) ⌝ }
+    requires { ⌜ RisingKeys (now keys) (length (now out)) ⌝ }
     ensures { λ _. ⌜ Walked (now (section .entry)) (now (keys .entry)) left (length (now (keys .entry)))
         (now (out .entry)) (now (out .exit)) ⌝ }
 {

@@ -1,3 +1,4 @@
+-- By the first a agents both columns are done and both sums are theirs; `SharesFit` says that the next ones fit.
 use borrow.Author.Needs.{needs}
 use native.Mathlib.Omega.{arith}
 use Prim.Native.Nat.{ℕ, _+_, _-_, _≤_, _<_}

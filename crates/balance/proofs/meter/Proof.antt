@@ -1,3 +1,5 @@
+-- A cell has the sum of the rows so far that name its agent, at most what as many rows can come to; so a reading more fits, and adding it
+-- to its cell is a row more in the sums (`added`).
 use borrow.Author.Needs.{needs}
 use native.Mathlib.Omega.{arith}
 use Prim.Native.Nat.{ℕ, _+_, _*_, _≤_, _<_, _-_}

@@ -1,3 +1,5 @@
+-- The loop goes by an agent's row and the exact columns. These are the sheet's (`takes`, `gives`, `uses`), and from the bounds on an hour's
+-- sums it follows that no sum of the loop is too large (`entering-fits`, `leaving-fits`).
 use borrow.Author.Needs.{needs}
 use native.Mathlib.Omega.{arith}
 use Prim.Native.Nat.{ℕ, _+_, _-_, _≤_, _<_}

@@ -1,3 +1,5 @@
+-- The cells are a book's, so that each total is at least what the hour adds to it: taking the old hour off and adding the new one is the
+-- book's own `moved`, total by total.
 use borrow.Author.Needs.{needs}
 use Rattle.book_cells.proofs.Turning.{turns-demand, turns-losses, turns-bought, old-fits, new-fits, turns-money, totals-are}
 use Rattle.book_cells.proofs.new_totals.Statement.{statement}

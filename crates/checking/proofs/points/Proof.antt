@@ -1,3 +1,5 @@
+-- Point 21 first: the loss shares, over what retailers used. Where it holds the demands are those with the statement's shares, and the
+-- other points are judged by them (`points-on`).
 use borrow.Author.Needs.{needs}
 use native.Mathlib.Omega.{arith}
 use Prim.Native.Nat.{ℕ, _≤_}

@@ -1,3 +1,5 @@
+-- Points 22 to 25 in their order: each verdict of the code is the definition's, by the demand and the columns that it was handed
+-- (`scheduled`, `agreed`, `lined`; of the price `passed-23`), so that the first which fails is the one told, and where none does all hold.
 use borrow.Author.Needs.{needs}
 use native.Mathlib.Omega.{arith}
 use Prim.Native.Nat.{ℕ, _≤_}

@@ -1,3 +1,6 @@
+-- Buyers before b are served, and the keys from where b's begin are still as `part` put them. So the stretch up to b's end has b's keys and
+-- no others (`slice-front`), and serving it adds b's side to those that are done (`cut-more`); an empty stretch is a buyer who has no side
+-- that is cut, or no rows in it (`cut-none-more`).
 use Prim.Native.Nat.{ℕ, _+_, _-_, _≤_, _<_}
 use mathlib.Core.Path.{_≡_, refl, sym, ap, _∙_}
 use native.Mathlib.Decide.{decLt}

@@ -1,3 +1,5 @@
+-- The lengths of the first line and of the others sum to the page's (`page-size`), so that the room is judged before a byte is written;
+-- then first line and others are put one behind the other, and that is the page (`page-text`).
 use Prim.Native.Nat.{ℕ, _≤_, _<_, _+_, _*_}
 use mathlib.Core.Path.{_≡_, refl, sym, _∙_}
 use mathlib.Core.Bool.{true, false, _&&_}

@@ -1,3 +1,5 @@
+-- Behind the first test the sheet settles, behind the second the contract is there; its row, its amount and its buyer's demand are then the
+-- definition's, and so are the figures told.
 use Prim.Native.Nat.{_<_}
 use native.Mathlib.Omega.{arith}
 use mathlib.Core.Path.{_≡_, ap, _∙_}

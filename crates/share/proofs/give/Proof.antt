@@ -1,3 +1,5 @@
+-- What is left for those at the crossing is what the weights before have not taken. So a weight's unit is the definition's (`share-taken`),
+-- and with its floor makes its share.
 use mathlib.Core.Path.{_≡_, refl, sym, ap, _∙_}
 use Prim.Native.Nat.{ℕ, _+_, _-_, _≤_, _<_}
 use native.Mathlib.Omega.{arith}

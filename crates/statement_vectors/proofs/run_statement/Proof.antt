@@ -1,3 +1,4 @@
+-- Each list that was read says how many cells it has, no more than there are; so the parts lent to `check` are there.
 use borrow.Author.Needs.{needs}
 use mathlib.Core.Path.{sym}
 use lib.ListN.{length}

@@ -1,3 +1,5 @@
+-- The columns that were filled are the sheet's contracts. So the two tallies, by buyer and by seller, are what each agent holds under
+-- contract by the statement's amounts, and the test by three passes is the definition's (`deals-are`, `held-is`).
 use borrow.Author.Needs.{needs}
 use Prim.Native.Nat.{_≤_}
 use mathlib.Core.Path.{_≡_, ap, _∙_, sym}

@@ -1,3 +1,4 @@
+-- A cell has what it had and the sum of the rows so far that name its agent. So many rows of 32 bits fit into 64.
 use borrow.Author.Needs.{needs}
 use native.Mathlib.Omega.{arith}
 use Prim.Native.Nat.{ℕ, _≤_, _<_, _+_, _-_}

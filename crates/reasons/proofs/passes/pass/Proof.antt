@@ -1,3 +1,4 @@
+-- The sum so far is that of the rows so far; each adds at most one quantity, so that all rows of a sheet fit.
 use borrow.Author.Needs.{needs}
 use native.Mathlib.Omega.{arith}
 use Prim.Native.Nat.{ℕ, _≤_, _-_, _+_}

@@ -1,3 +1,5 @@
+-- What an agent holds is what the rows so far bought for it and sold for it. A row adds its amount to two cells, its buyer's and its
+-- seller's, which are there and have room (`first-fits`, `second-fits`).
 use borrow.Author.Needs.{needs}
 use native.Mathlib.Omega.{arith}
 use Prim.Native.Nat.{ℕ, _+_, _-_, _≤_, _<_}

@@ -1,3 +1,5 @@
+-- The checks in their order: lists, then the four sections, then the room. Behind each check its verdict is known to be fine, so that the
+-- first that is not is the definition's first.
 use Rattle.writing.specs.Judged.{listsGood, sectionListed, writeVerdict}
 use Rattle.writing.specs.Numbers.{Numbers, numbers, countsIn}
 use Rattle.writing.proofs.Good.{lists-small}
