@@ -5,6 +5,7 @@ use mathlib.Core.List.{List}
 use mathlib.Core.Path.{_≡_}
 use lib.Dec.{ltb, leb, eqb}
 use lib.ListN.{length, getD}
+use Rattle.limits.specs.Limits.{mostAgents, mostContracts}
 use Rattle.sums.specs.Lists.{at}
 use Rattle.deals.specs.Deals.{kind, price, quantity}
 use Rattle.deals.specs.Hour.{Rows}
@@ -28,10 +29,11 @@ pastEnd = record { good = false; reach = 0; depth = 0; top = 0; firm = 0; given 
 abbrev pub unsummed : Summed
 unsummed = record { ahead = 0; largest = 0; under = 0; cheaper = 0; whole = 0 }
 
--- four columns of one length, of at most 256 rows, with an amount for each, whose buyers are among at most 64 agents
+-- four columns of one length, of no more rows than a sheet may have contracts, with an amount for each; the buyers are among agents, no more
+-- than a sheet may have
 pub record Columns (bs ks ps qs xs ds : List ℕ) : Type 0 where
-  pub few : length qs ≤ 256
-  pub agents : length ds ≤ 64
+  pub few : length qs ≤ mostContracts
+  pub agents : length ds ≤ mostAgents
   pub buyers : length bs ≡ length qs
   pub kinds : length ks ≡ length qs
   pub prices : length ps ≡ length qs
@@ -46,8 +48,8 @@ pub record SeenOf (s : Rows) (xs : List ℕ) (n a : ℕ) (v : Seen) : Type 0 whe
   pub asked : v .asked ≤ room n
 
 pub record AllSeen (s : Rows) (xs : List ℕ) (n : ℕ) (all : List Seen) : Type 0 where
-  pub long : length all ≡ 64
-  pub each : (a : ℕ) → a < 64 → SeenOf s xs n a (getD all a pastEnd)
+  pub long : length all ≡ mostAgents
+  pub each : (a : ℕ) → a < mostAgents → SeenOf s xs n a (getD all a pastEnd)
 
 pub record SummedOf (s : Rows) (xs : List ℕ) (seen : List Seen) (n a : ℕ) (z : Summed) : Type 0 where
   pub summed : SummedTo (emptied s a) (onlyOf (s .buyers) a xs) (getD seen a pastEnd .reach - 1)
@@ -58,8 +60,8 @@ pub record SummedOf (s : Rows) (xs : List ℕ) (seen : List Seen) (n a : ℕ) (z
   pub whole : z .whole ≤ room n
 
 pub record AllSummed (s : Rows) (xs : List ℕ) (seen : List Seen) (n : ℕ) (all : List Summed) : Type 0 where
-  pub long : length all ≡ 64
-  pub each : (a : ℕ) → a < 64 → SummedOf s xs seen n a (getD all a unsummed)
+  pub long : length all ≡ mostAgents
+  pub each : (a : ℕ) → a < mostAgents → SummedOf s xs seen n a (getD all a unsummed)
 
 abbrev pub fineOf : (s : Rows) (xs ds : List ℕ) (seen : List Seen) (sums : List Summed) → (a j : ℕ) → Bool
 fineOf s xs ds seen sums a j =
@@ -69,8 +71,8 @@ fineOf s xs ds seen sums a j =
 
 pub record AllFine (s : Rows) (xs ds : List ℕ) (seen : List Seen) (sums : List Summed) (n : ℕ) (all : List Bool) : Type
     0 where
-  pub long : length all ≡ 64
-  pub each : (a : ℕ) → a < 64 → getD all a false ≡ every n (fineOf s xs ds seen sums a)
+  pub long : length all ≡ mostAgents
+  pub each : (a : ℕ) → a < mostAgents → getD all a false ≡ every n (fineOf s xs ds seen sums a)
 
 -- what the passes find of one retailer, put together
 abbrev pub retailerTest : Seen → Summed → (groups : Bool) → (left d : ℕ) → Bool

@@ -5,12 +5,12 @@ use limits::Agent;
 use limits::Contract;
 ghost use mathlib.Core.Path.{_≡_};
 ghost use mathlib.Core.Bool.{cond, _&&_};
-ghost use Prim.Native.Nat.{_+_, _-_, _≤_, _<_, max};
+ghost use Prim.Native.Nat.{_+_, _-_, _*_, _≤_, _<_, max};
 ghost use lib.ListN.{length};
 ghost use lib.Dec.{ltb, leb, eqb};
 ghost use Rattle.sums.specs.Sums.{pick};
 ghost use Rattle.sums.specs.Lists.{at};
-ghost use Rattle.limits.specs.Limits.{mostAgents};
+ghost use Rattle.limits.specs.Limits.{mostAgents, mostContracts};
 ghost use Rattle.deals.specs.Deals.{conditional, demanded};
 ghost use Rattle.statement.specs.Decide.{every, isNear};
 ghost use Rattle.statement.specs.Quick.{shapeGood, groupGood};
@@ -70,7 +70,7 @@ pub(crate) fn most_when(a: u32, t: bool, x: u32) -> u32
 }
 
 fn more_when(a: u64, t: bool, x: u32) -> u64
-    requires { ⌜ a ≤ room 1024 ⌝ }
+    requires { ⌜ a ≤ room (4 * mostContracts) ⌝ }
     ensures { λ r. ⌜ (r ≡ a + pick t x) × (r ≤ a + 4294967295) ⌝ }
 {
     if t {
@@ -93,7 +93,7 @@ fn shape_good(k: u32, q: u32, x: u32) -> bool
 }
 
 fn look(v: Seen, k: u32, p: u32, q: u32, x: u32) -> Seen
-    requires { ⌜ (v .firm ≤ room 256) × (v .given ≤ room 256) × (v .asked ≤ room 256) ⌝ }
+    requires { ⌜ (v .firm ≤ room mostContracts) × (v .given ≤ room mostContracts) × (v .asked ≤ room mostContracts) ⌝ }
     ensures { λ r. ⌜ Looked v k p q x r ⌝ }
 {
     let good = shape_good(k, q, x);
@@ -119,7 +119,7 @@ fn look(v: Seen, k: u32, p: u32, q: u32, x: u32) -> Seen
 }
 
 fn firm_below(a: u64, k: u32, p: u32, u: u64, q: u32) -> u64
-    requires { ⌜ a ≤ room 1024 ⌝ }
+    requires { ⌜ a ≤ room (4 * mostContracts) ⌝ }
     ensures { λ r. ⌜ (r ≡ a + pick (ltb k demanded && ltb p u) q) × (r ≤ a + 4294967295) ⌝ }
 {
     let price = sums::wide(p);
@@ -127,7 +127,7 @@ fn firm_below(a: u64, k: u32, p: u32, u: u64, q: u32) -> u64
 }
 
 fn demanded_below(a: u64, k: u32, p: u32, u: u64, q: u32) -> u64
-    requires { ⌜ a ≤ room 1024 ⌝ }
+    requires { ⌜ a ≤ room (4 * mostContracts) ⌝ }
     ensures { λ r. ⌜ (r ≡ a + pick (eqb k demanded && ltb p u) q) × (r ≤ a + 4294967295) ⌝ }
 {
     let price = sums::wide(p);
@@ -135,7 +135,7 @@ fn demanded_below(a: u64, k: u32, p: u32, u: u64, q: u32) -> u64
 }
 
 fn at_price(a: u64, k: u32, which: u32, p: u32, u: u64, x: u32) -> u64
-    requires { ⌜ a ≤ room 1024 ⌝ }
+    requires { ⌜ a ≤ room (4 * mostContracts) ⌝ }
     ensures { λ r. ⌜ (r ≡ a + pick (eqb k which && eqb p u) x) × (r ≤ a + 4294967295) ⌝ }
 {
     let price = sums::wide(p);
@@ -150,7 +150,8 @@ fn largest_at(a: u32, k: u32, p: u32, u: u64, x: u32) -> u32
 }
 
 fn add(u: u64, w: u64, g: u64, v: Summed, k: u32, p: u32, q: u32, x: u32) -> Summed
-    requires { ⌜ (v .ahead ≤ room 512) × (v .under ≤ room 768) × (v .cheaper ≤ room 256) × (v .whole ≤ room 256) ⌝ }
+    requires { ⌜ (v .ahead ≤ room (2 * mostContracts)) × (v .under ≤ room (3 * mostContracts)) × (v .cheaper ≤ room mostContracts)
+        × (v .whole ≤ room mostContracts) ⌝ }
     ensures { λ r. ⌜ Added u w g v k p q x r ⌝ }
 {
     let cheap = firm_below(v.ahead, k, p, u, q);
@@ -182,7 +183,7 @@ fn rest(left: u32, c: u64) -> u32
 
 // A row of the group that is the last to be given something.
 fn in_group(left: u32, c: u64, t: u64, q: u32, x: u32) -> bool
-    requires { ⌜ (c ≤ room 256) × (t ≤ room 256) ⌝ }
+    requires { ⌜ (c ≤ room mostContracts) × (t ≤ room mostContracts) ⌝ }
     ensures { λ r. ⌜ r ≡ cond (leb (c + t) left) (eqb x q) (isNear (left - c) q t x) ⌝ }
 {
     if c + t <= sums::wide(left) {
@@ -192,7 +193,7 @@ fn in_group(left: u32, c: u64, t: u64, q: u32, x: u32) -> bool
 }
 
 fn group_good(left: u32, g: u64, c: u64, t: u64, k: u32, p: u32, q: u32, x: u32) -> bool
-    requires { ⌜ (c ≤ room 256) × (t ≤ room 256) ⌝ }
+    requires { ⌜ (c ≤ room mostContracts) × (t ≤ room mostContracts) ⌝ }
     ensures { λ r. ⌜ r ≡ groupGood left g c t k p q x ⌝ }
 {
     if k != Contract::DEMANDED {
@@ -258,7 +259,8 @@ fn look_rows(
 
 // One row more in the sums of its buyer, of whom the first pass found v.
 fn add_at(v: Seen, z: Summed, k: u32, p: u32, q: u32, x: u32) -> Summed
-    requires { ⌜ (z .ahead ≤ room 512) × (z .under ≤ room 768) × (z .cheaper ≤ room 256) × (z .whole ≤ room 256) ⌝ }
+    requires { ⌜ (z .ahead ≤ room (2 * mostContracts)) × (z .under ≤ room (3 * mostContracts)) × (z .cheaper ≤ room mostContracts)
+        × (z .whole ≤ room mostContracts) ⌝ }
     ensures { λ r. ⌜ Added (v .reach - 1) (above - v .depth) (v .top - 1) z k p q x r ⌝ }
 {
     let u = numbers::less_wide(v.reach, 1);
@@ -302,7 +304,7 @@ fn add_rows(
 }
 
 fn group_at(d: u32, v: Seen, z: Summed, k: u32, p: u32, q: u32, x: u32) -> bool
-    requires { ⌜ (z .cheaper ≤ room 256) × (z .whole ≤ room 256) ⌝ }
+    requires { ⌜ (z .cheaper ≤ room mostContracts) × (z .whole ≤ room mostContracts) ⌝ }
     ensures { λ r. ⌜ r ≡ groupGood (d - v .firm) (v .top) (z .cheaper) (z .whole) k p q x ⌝ }
 {
     group_good(rest(d, v.firm), v.top, z.cheaper, z.whole, k, p, q, x)

@@ -27,7 +27,7 @@ pub(crate) struct Run {
 
 // One plant more, which is to deliver q.
 fn run_one(v: Run, flag: u32, must: u32, offer: u32, available: u32, q: u32) -> Run
-    requires { ⌜ v .total ≤ room 256 ⌝ }
+    requires { ⌜ v .total ≤ room mostPlants ⌝ }
     ensures { λ r. ⌜ Ran v flag must offer available q r ⌝ }
 {
     let total = v.total + sums::wide(q);

@@ -4,11 +4,15 @@ use hour::Summary;
 use input::cases::Case;
 use libc::STDERR_FILENO;
 use libc::STDOUT_FILENO;
+use limits::Agent;
+use limits::Contract;
+use limits::Plant;
 use printing::Printed;
 use sheet::Counts;
 use sheet::Reading;
 ghost use Prim.Native.Nat.{_*_, _≤_};
 ghost use lib.ListN.{length};
+ghost use Rattle.limits.specs.Limits.{mostAgents, mostPlants, mostContracts};
 ghost use Rattle.hour_vectors.specs.Cases.{RowsFit};
 
 // More cases than these are not looked at.
@@ -32,7 +36,7 @@ fn print_first(list: &[u32], n: usize)
 
 // Every sixth figure is a loss share.
 fn print_shares(figures: &[u32], n: usize)
-    requires { ⌜ (n ≤ 64) × (6 * n ≤ length (now figures)) ⌝ }
+    requires { ⌜ (n ≤ mostAgents) × (6 * n ≤ length (now figures)) ⌝ }
 {
     let mut a = 0;
     while a < n {
@@ -54,9 +58,9 @@ fn fill_kinds(bytes: &[u8], n: usize, kinds: &mut [u32])
 
 // The page of the desk program: the hour with a line for each of n agents, or the refusal.
 fn print_page(s: Summary, bytes: &[u8], n: usize, figures: &[u32], money: &[i64])
-    requires { ⌜ (n ≤ 64) × (6 * n ≤ length (now figures)) × (n ≤ length (now money)) ⌝ }
+    requires { ⌜ (n ≤ mostAgents) × (6 * n ≤ length (now figures)) × (n ≤ length (now money)) ⌝ }
 {
-    let mut kinds = [0u32; 64];
+    let mut kinds = [0u32; Agent::MOST];
     fill_kinds(bytes, n, &mut kinds);
     let cells = 6 * n;
     let mut page = io::large_buffer();
@@ -70,7 +74,8 @@ fn print_page(s: Summary, bytes: &[u8], n: usize, figures: &[u32], money: &[i64]
 }
 
 fn print_lists(c: Counts, figures: &[u32], schedule: &[u32], amounts: &[u32])
-    requires { ⌜ RowsFit c × (384 ≤ length (now figures)) × (64 ≤ length (now schedule)) × (256 ≤ length (now amounts)) ⌝ }
+    requires { ⌜ RowsFit c × (6 * mostAgents ≤ length (now figures)) × (mostPlants ≤ length (now schedule))
+        × (mostContracts ≤ length (now amounts)) ⌝ }
 {
     io::write_all(STDOUT_FILENO, b"shares");
     print_shares(figures, c.agents);
@@ -82,10 +87,10 @@ fn print_lists(c: Counts, figures: &[u32], schedule: &[u32], amounts: &[u32])
 
 // Settles one sheet and prints the answer.
 fn run_case(bytes: &[u8]) {
-    let mut figures = [0u32; 384];
-    let mut money = [0i64; 64];
-    let mut schedule = [0u32; 64];
-    let mut amounts = [0u32; 256];
+    let mut figures = [0u32; Agent::CELLS * Agent::MOST];
+    let mut money = [0i64; Agent::MOST];
+    let mut schedule = [0u32; Plant::MOST];
+    let mut amounts = [0u32; Contract::MOST];
     let s = settle::settle(bytes, &mut figures, &mut money, &mut schedule, &mut amounts);
     if 0 < s.number {
         print_page(s, bytes, 0, &figures, &money);

@@ -5,6 +5,10 @@ ghost use Prim.Native.Nat.{_≤_, _<_};
 ghost use lib.ListN.{length};
 use input::cases::Case;
 use libc::STDOUT_FILENO;
+use limits::Agent;
+use limits::Boundary;
+use limits::Contract;
+use limits::Plant;
 use refusals::Refusal;
 use sheet::Counts;
 use sheet::Fields;
@@ -133,10 +137,10 @@ fn take_and_write(
 }
 
 fn same_again(s: &[u8], c: Counts) -> bool {
-    let mut agents = [0u32; 64];
-    let mut boundaries = [0u32; 1024];
-    let mut plants = [0u32; 320];
-    let mut contracts = [0u32; 1280];
+    let mut agents = [0u32; Agent::MOST];
+    let mut boundaries = [0u32; 4 * Boundary::MOST];
+    let mut plants = [0u32; 5 * Plant::MOST];
+    let mut contracts = [0u32; 5 * Contract::MOST];
     let mut out = [0u8; 10272];
     take_and_write(
         s,
