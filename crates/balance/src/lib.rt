@@ -1,4 +1,6 @@
 // From readings to commercial demand: what each agent took and delivered, what was lost on the way, and who carries it.
+#![tactic(auto)]
+
 ghost use Rattle.std.specs.Prelude.{◌≡◌, false, ◌&&◌, ◌||◌, not, ℕ, ◌+◌, ◌-◌, ◌≤◌, ◌<◌, ltb, eqb, length, take, set};
 ghost use Rattle.sums.specs.Sums.{pick, first};
 ghost use Rattle.sums.specs.Lists.{at};
@@ -18,7 +20,7 @@ use refusals::{Refusal, Verdict};
 use sheet::Counts;
 
 // What weighing answers beside the columns. A refused sheet has 0.
-#[derive(Drop)]
+#[derive(Clone, Copy)]
 pub struct Weight {
     pub verdict: Verdict,
     pub losses: u32,
@@ -78,7 +80,7 @@ fn meter(s: &[u8], c: Counts, imports: &mut [u64], exports: &mut [u64])
 
 // What one agent took, delivered and consumed, in whole kWh: of a retailer what it consumed, of a generator the other two; and whether it
 // is a retailer that delivers more than it takes.
-#[derive(Drop)]
+#[derive(Clone, Copy)]
 struct Whole {
     taken: u32,
     given: u32,
@@ -198,7 +200,7 @@ fn judge(over: usize, n: usize, entering: u32, leaving: u32, consumed: u32) -> V
 
 // What all agents come to: the first retailer that delivers more than it takes, or how many agents there are; the energy that enters the
 // system, what retailers consumed, and what generators took.
-#[derive(Drop)]
+#[derive(Clone, Copy)]
 struct Metering {
     over: usize,
     entering: u32,
@@ -271,7 +273,7 @@ fn read_columns(
 }
 
 // What retailers demand in all, and what small generators deliver.
-#[derive(Drop)]
+#[derive(Clone, Copy)]
 struct Demanded {
     all: u32,
     small: u32,

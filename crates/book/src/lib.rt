@@ -1,4 +1,6 @@
 // A day's book of 24 places with four totals beside them. A call changes one place and the totals, where they stand.
+#![tactic(auto)]
+
 ghost use Rattle.std.specs.Prelude.{◌≡◌, ◌+◌, ◌*◌, ◌-◌};
 ghost use Rattle.refusals.specs.Refusals.{or_else};
 ghost use Rattle.refusals.specs.declared.Verdict.{Verdict};
@@ -10,7 +12,7 @@ use refusals::{Refusal, Verdict, refuse};
 use sums::wide;
 
 // Where no hour is held, the numbers are 0.
-#[derive(Drop)]
+#[derive(Clone, Copy)]
 pub struct Place {
     pub held: bool,
     pub demand: u32,
@@ -19,7 +21,7 @@ pub struct Place {
     pub price: u32,
 }
 
-#[derive(Drop)]
+#[derive(Clone, Copy)]
 pub struct Totals {
     pub demand: u64,
     pub losses: u64,
@@ -27,7 +29,7 @@ pub struct Totals {
     pub money: u64,
 }
 
-#[derive(Drop)]
+#[derive(Clone, Copy)]
 pub struct Book {
     pub places: [Place; 24],
     pub totals: Totals,
@@ -42,7 +44,7 @@ impl Book {
 }
 
 // What a call makes of one place and of the totals, and its answer.
-#[derive(Drop)]
+#[derive(Clone, Copy)]
 pub struct Told {
     pub place: Place,
     pub totals: Totals,
@@ -268,7 +270,7 @@ pub fn remove(book: &mut Book, hour: u32) -> Verdict
 }
 
 // What a call leaves of a book that is held by value, and its answer.
-#[derive(Drop)]
+#[derive(Clone, Copy)]
 pub struct Outcome {
     pub book: Book,
     pub verdict: Verdict,

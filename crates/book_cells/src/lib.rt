@@ -1,6 +1,8 @@
 // A day's book as cells in a lent list, for callers in other languages: five cells a place (held, demand, losses, bought, price), place by
 // place, and behind them the four totals. Nothing is asked of the cells: a call looks at its one place and at the totals, and refuses
 // where no calls from an empty book leave such.
+#![tactic(auto)]
+
 ghost use Rattle.std.specs.Prelude.{◌≡◌, ◌+◌, ◌-◌, ◌*◌, ◌≤◌, ◌^◌, ◌<◌, length};
 ghost use Rattle.sums.specs.Lists.{at};
 ghost use Rattle.book.specs.Book.{blank, holding, fits, moved, slot_verdict, entry_verdict};

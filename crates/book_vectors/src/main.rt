@@ -2,6 +2,8 @@
 // A book is a count and that many calls; a call is six 32-bit numbers, the low byte first: 1 to enter or 2 to remove, the hour, demand,
 // losses, bought and price. Each call is also made on cells by the functions for C: an answer or totals other than the book's, or a
 // cell behind the book that was written, are told in a line that no expected answer has.
+#![tactic(auto)]
+
 ghost use Rattle.book.specs.Book.{Kept};
 
 use book::{Book, Outcome, Totals};

@@ -3,6 +3,8 @@
 //
 // A case is whole rows of 16 bytes. The first four are 16 numbers: the call, two numbers, the count of bytes, the counts of four
 // lists, the rooms of six lent lists, the case's rows, and 0. Then come the bytes and the lists of 32-bit numbers, each from a new row on.
+#![tactic(auto)]
+
 use input::Input;
 use libc::STDERR_FILENO;
 

@@ -1,4 +1,6 @@
 // The library for C and Rust. A list passes as a pointer and then its length; answers are numbers in a lent list.
+#![tactic(auto)]
+
 pub mod day_book;
 pub mod mending;
 

@@ -1,5 +1,7 @@
 // What the desk's words share: text, numbers and refusals on standard output. Each function that says something answers whether all of it
 // was written.
+#![tactic(auto)]
+
 pub mod files;
 
 ghost use Rattle.std.specs.Prelude.{◌≡◌, take};

@@ -1,5 +1,7 @@
 // Whether an administrator's statement of an hour is accepted: a sheet, a price and four lists go in, a verdict comes out, and nothing
 // is changed.
+#![tactic(auto)]
+
 use limits::Agent;
 use refusals::{Refusal, Verdict};
 use sheet::{Counts, Reading};

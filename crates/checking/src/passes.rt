@@ -16,7 +16,7 @@ use limits::{Agent, Contract};
 // What the first pass finds: whether kinds 1 and 2 are in full or 0; one above the highest price at which kind 2 is given
 // something, how far below 2^32 the lowest stands at which it is not, one above the highest at which kind 3 is given something; what
 // kinds 1 and 2 are given, what kind 3 is given, and what it has.
-#[derive(Drop)]
+#[derive(Clone, Copy)]
 pub(crate) struct Seen {
     pub good: bool,
     pub reach: u64,
@@ -28,7 +28,7 @@ pub(crate) struct Seen {
 }
 
 // What the second pass sums up at those prices.
-#[derive(Drop)]
+#[derive(Clone, Copy)]
 pub(crate) struct Summed {
     pub ahead: u64,
     pub largest: u32,

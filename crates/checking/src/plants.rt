@@ -16,7 +16,7 @@ use sheet::Counts;
 
 // What a pass over the plants finds: whether each stands within its bounds, what they deliver together, the dearest offer above a
 // must-run, and the highest flexible one that is scheduled.
-#[derive(Drop)]
+#[derive(Clone, Copy)]
 pub(crate) struct Run {
     pub good: bool,
     pub total: u64,

@@ -1,4 +1,6 @@
 // What the desk program does. It only reads, calls and writes, so no contract can say more of it than that it is safe and ends.
+#![tactic(auto)]
+
 mod hours;
 mod mending;
 mod why;

@@ -1,4 +1,6 @@
 // The contracts of an hour: what each of them is assigned.
+#![tactic(auto)]
+
 use limits::{Agent, Contract};
 use refusals::{Refusal, Verdict};
 
@@ -157,7 +159,7 @@ fn assign_some(section: &[u8], decided: &[u32], next: &mut [u32], demands: &[u32
 }
 
 // What is found of a section: whether it can be assigned, and if so whether any side is cut.
-#[derive(Drop)]
+#[derive(Clone, Copy)]
 struct Plan {
     verdict: Verdict,
     some: bool,

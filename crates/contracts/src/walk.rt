@@ -11,7 +11,7 @@ ghost use Rattle.contracts.specs.Walk.{Group, group_amount, Walked, RisingKeys};
 use limits::Contract;
 
 // What is left of a retailer's demand.
-#[derive(Drop)]
+#[derive(Clone, Copy)]
 pub struct Tally {
     pub left: u32,
 }

@@ -1,5 +1,7 @@
 // Where a demand crosses rows with keys and values, for any number of rows, with no order of them made: by passes, each a sum of
 // values with no branch in it, and one that draws the end in to a key that there is.
+#![tactic(auto)]
+
 ghost use Rattle.std.specs.Prelude.{◌≡◌, ℕ, ◌+◌, ◌-◌, ◌≤◌, ◌<◌, min, ltb, length};
 ghost use Rattle.sums.specs.Sums.{peak, pick};
 ghost use Rattle.sums.specs.Lists.{at};

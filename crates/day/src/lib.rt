@@ -1,4 +1,6 @@
 // A day at one go: 24 sheets, one behind another, each settled into its own part of the four lent lists.
+#![tactic(auto)]
+
 ghost use Rattle.std.specs.Prelude.{◌≡◌, ◌+◌, ◌*◌, ◌≤◌, [], ◌∷◌, replicate};
 ghost use Rattle.refusals.specs.Refusals.{bad_length, no_room, refused_unless, first_of};
 ghost use Rattle.hour.specs.Answer.{lent};

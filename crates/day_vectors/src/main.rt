@@ -1,6 +1,8 @@
 // Reads days from standard input, settles each by the function for C, and prints each hour's summary and, of a settled one, its lists.
 // A day is 24 lengths, a count and that many bytes, and the lengths of the four lent lists. Numbers have 32 bits, the low byte first.
 // A cell that was not to be written and was is told in a line that no expected answer has.
+#![tactic(auto)]
+
 ghost use Rattle.std.specs.Prelude.{◌≤◌};
 ghost use Rattle.limits.specs.Limits.{most_agents, most_plants, most_contracts};
 ghost use Rattle.day.specs.Day.{hours};

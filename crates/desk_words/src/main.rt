@@ -2,6 +2,8 @@
 // in the time of one. Its own words are the commands, with `+` between; a command of no words settles the standard input. Each is printed
 // as a heading, and then the desk does what it asks for. `show FILE` is none of the desk's: it prints the bytes of a file and a line end,
 // or that there is no such file.
+#![tactic(auto)]
+
 use channels::say;
 
 fn is_word(i: usize, text: &[u8]) -> bool {

@@ -1,5 +1,7 @@
 // The ideal dispatch of one hour and its price, for any number of plants. No order of the plants is made: the price at which
 // the demand crosses the offers is found by passes, and one pass then fills the schedule.
+#![tactic(auto)]
+
 ghost use Rattle.std.specs.Prelude.{◌≡◌, ◌-◌, ◌≤◌, min, ltb, eqb, length};
 ghost use Rattle.sums.specs.Sums.{sum, pick};
 ghost use Rattle.sums.specs.Lists.{at, Filled};

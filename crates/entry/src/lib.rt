@@ -1,4 +1,6 @@
 // From a settled hour to what a day's book holds of it: demand, losses, bought kWh and price.
+#![tactic(auto)]
+
 ghost use Rattle.std.specs.Prelude.{◌≡◌, ◌≤◌, min};
 ghost use Rattle.sums.specs.Lists.{at};
 ghost use Rattle.limits.specs.Limits.{most_agents};
@@ -12,7 +14,7 @@ use sheet::counting::Counting;
 use sums::wide;
 
 // What is entered of a settled hour; a refused hour has nothing to enter.
-#[derive(Drop)]
+#[derive(Clone, Copy)]
 pub enum Entry {
     Hour(Place),
     Refused(Refusal),

@@ -1,4 +1,6 @@
 // What settling and checking both stand on: whether the hour of a sheet is to be settled at all, and its plants by their columns.
+#![tactic(auto)]
+
 use balance::Weight;
 use limits::Agent;
 use refusals::{Refusal, Verdict};

@@ -13,7 +13,7 @@ use limits::Plant;
 use sheet::Counts;
 
 // What all plants can deliver together, and what of it they must.
-#[derive(Drop)]
+#[derive(Clone, Copy)]
 pub(crate) struct Reach {
     pub available: u32,
     pub must: u32,

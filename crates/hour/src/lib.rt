@@ -1,5 +1,7 @@
 // What an hour answers: the summary that every settlement hands back. All else here is definitions and laws.
-#[derive(Drop)]
+#![tactic(auto)]
+
+#[derive(Clone, Copy)]
 pub struct Summary {
     pub number: u32,
     pub place: u32,

@@ -1,5 +1,7 @@
 // Reads sheets from standard input, settles each, and prints its page and its lists.
 // A case is a 32-bit length, the low byte first, and that many bytes.
+#![tactic(auto)]
+
 ghost use Rattle.std.specs.Prelude.{◌*◌, ◌≤◌, length};
 ghost use Rattle.limits.specs.Limits.{most_agents, most_plants, most_contracts};
 ghost use Rattle.hour_vectors.specs.Cases.{RowsFit};

@@ -6,7 +6,7 @@ use crate::Input;
 use libc::STDERR_FILENO;
 
 // The next number; or that the input ends before it, or within it, or that a read failed.
-#[derive(Drop)]
+#[derive(Clone, Copy)]
 pub enum Next {
     Number(u32),
     End,
@@ -15,7 +15,7 @@ pub enum Next {
 }
 
 // The next case: a sheet of so many bytes; or that the input ends before it, or within it, or that a read failed.
-#[derive(Drop)]
+#[derive(Clone, Copy)]
 pub enum Case {
     Sheet(usize),
     End,
@@ -24,7 +24,7 @@ pub enum Case {
 }
 
 // How many cells of a list were read, or that the input ended within them or they are too many.
-#[derive(Drop)]
+#[derive(Clone, Copy)]
 pub enum Got {
     Cells(usize),
     Cut,

@@ -1,4 +1,6 @@
 // What the programs read: standard input, and files by name. A read that fails is told apart from an input that ends.
+#![tactic(auto)]
+
 ghost use Rattle.std.specs.Prelude.{length};
 ghost use Rattle.input.specs.Input.{Within};
 
@@ -7,7 +9,7 @@ use libc::STDIN_FILENO;
 pub mod cases;
 
 // How many bytes of the buffer the input has filled, or that a read failed.
-#[derive(Drop)]
+#[derive(Clone, Copy)]
 pub enum Input {
     Bytes(usize),
     Failed,

@@ -1,8 +1,10 @@
 // The four kinds of row, with the limits that bound them.
+#![tactic(auto)]
+
 ghost use Rattle.std.specs.Prelude.{◌≡◌, leb};
 ghost use Rattle.limits.specs.Limits.{most_factor, most_reading, most_offer, most_available, most_price, most_quantity, few_rows};
 
-#[derive(Drop)]
+#[derive(Clone, Copy)]
 pub struct Agent {
     pub kind: u32,
 }
@@ -24,7 +26,7 @@ impl Agent {
     pub const SMALL: u32 = 3;
 }
 
-#[derive(Drop)]
+#[derive(Clone, Copy)]
 pub struct Boundary {
     pub agent: u32,
     pub factor: u32,
@@ -43,7 +45,7 @@ impl Boundary {
     pub const READING: u32 = 4000000;
 }
 
-#[derive(Drop)]
+#[derive(Clone, Copy)]
 pub struct Plant {
     pub agent: u32,
     pub inflexible: u32,
@@ -67,7 +69,7 @@ impl Plant {
     pub const AVAILABILITY: u32 = 4000000;
 }
 
-#[derive(Drop)]
+#[derive(Clone, Copy)]
 pub struct Contract {
     pub seller: u32,
     pub buyer: u32,

@@ -1,5 +1,7 @@
 // An agent's line: what it buys, sells and is owed, from its kind, its own energy, its own import and what it holds under contract; and
 // its figures and its money, written.
+#![tactic(auto)]
+
 ghost use Rattle.std.specs.Prelude.{◌≡◌, ℕ, ◌+◌, ◌*◌, ◌≤◌, ◌<◌, min, pos, length};
 ghost use Rattle.sums.specs.Lists.{at, Filled};
 ghost use Rattle.limits.specs.Limits.{most_agents, most_offer};

@@ -1,4 +1,6 @@
 // Mending a sheet: a copy with its distances worked out and its unused bytes set to 0, and a report of every byte changed.
+#![tactic(auto)]
+
 ghost use Rattle.std.specs.Prelude.{◌≡◌, ◌+◌, ◌-◌, ◌*◌, ◌/◌, ◌%◌, ◌^◌, ◌≤◌, ◌<◌, length};
 ghost use Rattle.octets.specs.Bytes.{word};
 ghost use Rattle.mend.specs.Mend.{row_mended, mended_at, changes, Mends};
@@ -10,7 +12,7 @@ use sheet::Counts;
 use sheet::counting::Counting;
 
 // What mending a sheet answers: how many bytes were changed, or why nothing was written.
-#[derive(Drop)]
+#[derive(Clone, Copy)]
 pub enum Mending {
     Done(usize),
     Refused(Refusal),

@@ -2,6 +2,8 @@
 // A case is a 32-bit length, the low byte first, that many bytes, and two 32-bit numbers: the room of the copy in bytes, and that of
 // the report in changes. A copy that isn't the sheet with just the changes reported, or a byte or cell that was not to be written
 // and was, is told in a line that no expected answer has.
+#![tactic(auto)]
+
 ghost use Rattle.std.specs.Prelude.{◌≤◌, ◌<◌};
 
 use input::cases::{Case, Next};

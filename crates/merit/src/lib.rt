@@ -1,1 +1,2 @@
 // Ideal dispatch as definitions, and the least-cost theorem: no code stands here.
+#![tactic(auto)]

@@ -1,9 +1,11 @@
 // Bytes as rows of sixteen, and a row as four 32-bit numbers.
+#![tactic(auto)]
+
 ghost use Rattle.std.specs.Prelude.{◌≡◌, ◌+◌, ◌≤◌, ◌<◌, length};
 ghost use Rattle.octets.specs.Bytes.{u32_at, words_at};
 
 // A row's sixteen bytes, as four 32-bit numbers.
-#[derive(Drop)]
+#[derive(Clone, Copy)]
 pub struct Words {
     pub first: u32,
     pub second: u32,

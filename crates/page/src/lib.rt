@@ -1,5 +1,7 @@
 // The page of a sheet: settled, and put into a lent buffer. Schedule and amounts are gone before the lines are written, and the lines
 // are written where settling is over: the stack never holds both.
+#![tactic(auto)]
+
 ghost use Rattle.std.specs.Prelude.{◌≡◌, [], ℕ, ◌≤◌, ◌<◌, length, take};
 ghost use Rattle.limits.specs.Limits.{most_agents, most_offer};
 ghost use Rattle.sums.specs.Lists.{at};

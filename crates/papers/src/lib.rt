@@ -1,5 +1,7 @@
 // What the desk does with papers: sheets and statements as text. It only reads, calls and writes, so no contract can say more of it than
 // that it is safe and ends.
+#![tactic(auto)]
+
 mod checks;
 mod differences;
 mod faults;

@@ -1,5 +1,7 @@
 // The page of an hour as bytes. A line is built from its end in a scratch array, since digits come least first, and then taken: once
 // for its length, so that the lent buffer is untouched until it is known to be long enough, and once to be copied there.
+#![tactic(auto)]
+
 pub mod pen;
 
 ghost use Rattle.std.specs.Prelude.{◌≡◌, true, false, ◌&&◌, ◌∷◌, [], ◌++◌, ◌+◌, ◌-◌, ◌*◌, ◌≤◌, ◌<◌, leb, pos, nat_abs, length, drop};
@@ -14,7 +16,7 @@ use limits::Agent;
 use refusals::Refusal;
 
 // What printing answers: how many bytes the page has, or why there is none.
-#[derive(Drop)]
+#[derive(Clone, Copy)]
 pub enum Printed {
     Done(usize),
     Refused(Refusal),

@@ -2,6 +2,8 @@
 // reason, and of a group that shares the remainder and the total. A sheet that settles for a plant and not for a contract is told in a
 // line that no expected answer has.
 // A case is a 32-bit length, the low byte first, and that many bytes.
+#![tactic(auto)]
+
 use input::cases::Case;
 use libc::STDOUT_FILENO;
 

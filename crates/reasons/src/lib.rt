@@ -1,5 +1,7 @@
 // Why did I get this? Of one plant or one contract of a sheet: the refusals of the sheet, then 12, else the first reason that holds, with
 // the figures that it rests on.
+#![tactic(auto)]
+
 ghost use Rattle.std.specs.Prelude.{◌≡◌, ◌≤◌, length};
 ghost use Rattle.limits.specs.Limits.{most_plants, most_contracts};
 ghost use Rattle.sheet.specs.Reading.{read_of};
@@ -16,7 +18,7 @@ use sheet::{Counts, Reading};
 mod passes;
 
 // Why a plant is scheduled as it is.
-#[derive(Drop)]
+#[derive(Clone, Copy)]
 pub enum PlantReason {
     // nothing available
     Nothing,
@@ -31,7 +33,7 @@ pub enum PlantReason {
 }
 
 // The reason with the plant's figures in kWh, its offer price and the bolsa price.
-#[derive(Drop)]
+#[derive(Clone, Copy)]
 pub struct PlantCase {
     pub reason: PlantReason,
     pub scheduled: u32,
@@ -41,28 +43,28 @@ pub struct PlantCase {
     pub price: u32,
 }
 
-#[derive(Drop)]
+#[derive(Clone, Copy)]
 pub enum PlantWhy {
     Because(PlantCase),
     Refused(Refusal),
 }
 
 // The quantities ahead of a conditional contract, and its buyer's commercial demand.
-#[derive(Drop)]
+#[derive(Clone, Copy)]
 pub struct Ahead {
     pub ahead: u32,
     pub demand: u32,
 }
 
 // What is left when a price group is reached, and what the group asks in all.
-#[derive(Drop)]
+#[derive(Clone, Copy)]
 pub struct Group {
     pub remainder: u32,
     pub total: u32,
 }
 
 // Why a contract is assigned its amount.
-#[derive(Drop)]
+#[derive(Clone, Copy)]
 pub enum ContractReason {
     Fixed,
     // conditional and needed
@@ -78,7 +80,7 @@ pub enum ContractReason {
 }
 
 // The reason with the contract's figures.
-#[derive(Drop)]
+#[derive(Clone, Copy)]
 pub struct ContractCase {
     pub reason: ContractReason,
     pub quantity: u32,
@@ -86,7 +88,7 @@ pub struct ContractCase {
     pub price: u32,
 }
 
-#[derive(Drop)]
+#[derive(Clone, Copy)]
 pub enum ContractWhy {
     Because(ContractCase),
     Refused(Refusal),

@@ -11,7 +11,7 @@ use limits::Contract;
 use sheet::Counts;
 
 // Which of a buyer's rows a pass adds up.
-#[derive(Drop)]
+#[derive(Clone, Copy)]
 pub(crate) enum Part {
     // kinds 1 and 2 ahead of the contract
     Ahead,

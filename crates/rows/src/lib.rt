@@ -1,4 +1,6 @@
 // What each of the four kinds of row says, what an agent of each kind does, and what makes a row good.
+#![tactic(auto)]
+
 ghost use Rattle.std.specs.Prelude.{◌≡◌};
 ghost use Rattle.rows.specs.Rows.{agent_of, boundary_of, plant_of, contract_of, agent_blank, boundary_blank};
 ghost use Rattle.rows.specs.Rows.{carries_losses, is_generator, may_sell, may_buy, holds_plants, is_outside};

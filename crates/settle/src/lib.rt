@@ -1,5 +1,7 @@
 // One hour settled: a sheet and four lent lists go in; the summary comes back and the lists are filled, or a refusal and the
 // lists as they were. Everything is judged before anything is written.
+#![tactic(auto)]
+
 use balance::Weight;
 use hour::Summary;
 use limits::Agent;

@@ -1,5 +1,7 @@
 // The sharing rule: an amount is shared over weights. Each weight gets its proportion rounded down, and the kWh left over
 // go one each to the largest remainders, the lower number first among equal ones.
+#![tactic(auto)]
+
 ghost use Rattle.std.specs.Prelude.{◌≡◌, ℕ, ◌+◌, ◌-◌, ◌*◌, ◌/◌, ◌%◌, ◌^◌, ◌<◌, ◌≤◌, min, length, ltb, eqb};
 ghost use Rattle.sums.specs.Sums.{pick};
 ghost use Rattle.sums.specs.Lists.{at, total, Filled};
@@ -76,7 +78,7 @@ fn rated(rate: u64, weight: u32) -> u64
 }
 
 // A weight's proportion of the amount, rounded down, and the remainder.
-#[derive(Drop)]
+#[derive(Clone, Copy)]
 struct Divided {
     floor: u32,
     remainder: u64,
@@ -106,7 +108,7 @@ fn divide(amount: u32, weight: u32, t: u64, rate: u64) -> Divided
 
 // The kWh left over cross the weights, by what these lack, somewhere from `low` to `high`; `left` of them reach `low`.
 // `held` is how many are counted in it, or 0, and only chooses the next step.
-#[derive(Drop)]
+#[derive(Clone, Copy)]
 struct Span {
     low: u64,
     high: u64,
@@ -115,7 +117,7 @@ struct Span {
 }
 
 // The least lack from `low` on that was seen, and how many have it.
-#[derive(Drop)]
+#[derive(Clone, Copy)]
 struct Least {
     lack: u64,
     count: u32,
@@ -267,7 +269,7 @@ fn classes(amount: u32, weights: &[u32], t: u64, out: &[u32], low: u64, s: u32, 
 }
 
 // A class, and what is left when those below it are passed.
-#[derive(Drop)]
+#[derive(Clone, Copy)]
 struct Reach {
     class: usize,
     left: u32,

@@ -1,5 +1,7 @@
 // Reads cases of the sharing rule from standard input and prints the shares of each.
 // A case is an amount, a count and that many weights, all 32-bit numbers, the low byte first.
+#![tactic(auto)]
+
 ghost use Rattle.std.specs.Prelude.{◌≤◌, length};
 ghost use Rattle.share.specs.Share.{most_weights};
 

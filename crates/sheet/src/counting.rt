@@ -6,7 +6,7 @@ use crate::{Counts, counts_fit, counts_of, length_good};
 use refusals::Refusal;
 
 // How many rows each section has, or why that can't be said.
-#[derive(Drop)]
+#[derive(Clone, Copy)]
 pub enum Counting {
     Rows(Counts),
     Refused(Refusal),

@@ -1,4 +1,6 @@
 // The hour sheet: reading it.
+#![tactic(auto)]
+
 ghost use Rattle.std.specs.Prelude.{◌≡◌, ◌+◌, ◌*◌, ◌≤◌, ◌<◌, length};
 ghost use Rattle.sheet.specs.Reading.{trailer_start, length_good, counts_of, counts_good, counts_fit, distances_good, layout_good, read_of};
 ghost use Rattle.sheet.specs.Asking.{rows_in, rows_before, section_of, agent_fields, boundary_fields};
@@ -15,7 +17,7 @@ pub mod counting;
 pub mod opened;
 
 // How many rows each section has.
-#[derive(Drop)]
+#[derive(Clone, Copy)]
 pub struct Counts {
     pub agents: usize,
     pub boundaries: usize,
@@ -30,14 +32,14 @@ impl Counts {
 }
 
 // What reading a sheet answers.
-#[derive(Drop)]
+#[derive(Clone, Copy)]
 pub enum Reading {
     Accepted(Counts),
     Refused(Refusal),
 }
 
 // A row's named fields in byte order, without fillers; the rest 0.
-#[derive(Drop)]
+#[derive(Clone, Copy)]
 pub struct Fields {
     pub first: u32,
     pub second: u32,
@@ -47,7 +49,7 @@ pub struct Fields {
 }
 
 // What asking for a row answers.
-#[derive(Drop)]
+#[derive(Clone, Copy)]
 pub enum RowRead {
     Row(Fields),
     Refused(Refusal),

@@ -7,7 +7,7 @@ ghost use Rattle.sheet.specs.declared.Reading.{Reading};
 use crate::asking::{row_of, section_of};
 use crate::{Counts, RowRead};
 
-#[derive(Drop)]
+#[derive(Clone, Copy)]
 pub struct OpenSheet<'a> {
     pub bytes: &'a [u8],
     pub counts: Counts,

@@ -1,6 +1,8 @@
 // Reads hour sheets from standard input and prints what reading answers to each. An accepted sheet is asked for all its numbers;
 // they are written again, and the line says whether the same bytes came out.
 // A case is a 32-bit length, the low byte first, and that many bytes.
+#![tactic(auto)]
+
 ghost use Rattle.std.specs.Prelude.{◌≤◌, ◌<◌};
 
 use input::cases::Case;

@@ -2,6 +2,8 @@
 // the answer.
 // A statement is a length and a sheet of that many bytes, a price, and figures, money, schedule and amounts, each a count and that many
 // cells. Numbers have 32 bits, the low byte first; a cell of money has 64.
+#![tactic(auto)]
+
 ghost use Rattle.std.specs.Prelude.{◌<◌, ◌+◌, length};
 ghost use Rattle.input.specs.Cases.{GotWithin};
 

@@ -1,4 +1,6 @@
 // An administrator's statement of an hour from its text.
+#![tactic(auto)]
+
 mod fills;
 mod marks;
 
@@ -10,14 +12,14 @@ use sheet::Counts;
 use text::Fault;
 
 // The price of a statement that was read, or its first line that is wrong and how.
-#[derive(Drop)]
+#[derive(Clone, Copy)]
 pub enum Statement {
     Price(u32),
     Wrong(usize, Fault),
 }
 
 // How many lines were read, and what is wrong with the last of them.
-#[derive(Drop)]
+#[derive(Clone, Copy)]
 pub struct Seen {
     pub line: usize,
     pub fault: Fault,

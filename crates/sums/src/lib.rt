@@ -1,4 +1,6 @@
 // The lowest layer: small numbers' leaves, each with its whole meaning in its contract.
+#![tactic(auto)]
+
 ghost use Rattle.std.specs.Prelude.{◌≡◌, ◌-◌, ◌<◌, min, max};
 
 // x less y, not below 0.

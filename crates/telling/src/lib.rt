@@ -1,5 +1,7 @@
 // Our statement of an hour as text, in the form in which an administrator's is typed. It is put together from its end, since digits come
 // least first, in a scratch with room for the longest; the lent buffer is untouched until it is known to be long enough.
+#![tactic(auto)]
+
 mod putting;
 
 ghost use Rattle.std.specs.Prelude.{◌≡◌, ◌≤◌, length, drop};

@@ -1,4 +1,6 @@
 // Text into words and numbers: lines apart by LF, fields by spaces, tabs, commas and semicolons. Every string of bytes is a text.
+#![tactic(auto)]
+
 mod cuts;
 mod numbers;
 pub mod puts;
@@ -12,7 +14,7 @@ ghost use Rattle.text.specs.Stretches.{Ends};
 ghost use Rattle.text.specs.declared.Fault.{Fault};
 
 // What is wrong with a line.
-#[derive(Drop)]
+#[derive(Clone, Copy)]
 pub enum Fault {
     None,
     Word,
@@ -26,21 +28,21 @@ pub enum Fault {
 }
 
 // What a field is as a number.
-#[derive(Drop)]
+#[derive(Clone, Copy)]
 pub enum Parsed {
     Value(u32),
     Wrong(Fault),
 }
 
 // What a field is as money.
-#[derive(Drop)]
+#[derive(Clone, Copy)]
 pub enum Owed {
     Value(i64),
     Wrong(Fault),
 }
 
 // A line, read: how many fields it has, its word, the first seven numbers behind it, the eighth as money, and what is wrong.
-#[derive(Drop)]
+#[derive(Clone, Copy)]
 pub struct Line {
     pub count: usize,
     pub word: u32,

@@ -5,7 +5,7 @@ ghost use Rattle.text.specs.Fields.{is_digit, is_number, worth, parsed_as, parse
 use super::{Fault, Owed, Parsed};
 
 // Whether a field is all digits, and what they are worth, held at 10^18: ten times that and a digit more fit 64 bits.
-#[derive(Drop)]
+#[derive(Clone, Copy)]
 pub(crate) struct Held {
     pub(crate) good: bool,
     pub(crate) value: u64,

@@ -1,4 +1,6 @@
 // A sheet from its text, and its text from a sheet.
+#![tactic(auto)]
+
 mod gather;
 mod places;
 mod scans;
@@ -17,7 +19,7 @@ use text::Fault;
 use writing::Writing;
 
 // How far a text was read: its lines up to the first that is wrong, what is wrong with that one, and the rows of each section.
-#[derive(Drop)]
+#[derive(Clone, Copy)]
 pub struct Scan {
     pub line: usize,
     pub fault: Fault,
@@ -26,7 +28,7 @@ pub struct Scan {
 
 // What making a sheet from its text answers: how long it is, or the line that is wrong and how, or why writing refuses and the line
 // of the row that it speaks of, 0 where it speaks of none.
-#[derive(Drop)]
+#[derive(Clone, Copy)]
 pub enum Made {
     Done(usize),
     Wrong(usize, Fault),

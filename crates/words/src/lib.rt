@@ -1,9 +1,11 @@
 // The words behind a program's name, and the files that they name.
+#![tactic(auto)]
+
 ghost use Rattle.std.specs.Prelude.{◌≡◌};
 ghost use Rattle.words.specs.Words.{same_word, spelled_in, with_digit};
 
 // What a word spells.
-#[derive(Drop)]
+#[derive(Clone, Copy)]
 pub enum Number {
     Is(u32),
     Not,

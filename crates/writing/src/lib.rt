@@ -1,4 +1,6 @@
 // Writing the hour sheet from four lists of 32-bit numbers: the named fields row by row in byte order, without fillers.
+#![tactic(auto)]
+
 mod judge;
 mod lists;
 mod place;
@@ -9,7 +11,7 @@ ghost use Rattle.writing.specs.Judged.{Written};
 use refusals::{Refusal, Verdict};
 
 // What writing a sheet answers: how long it is, or why nothing was written.
-#[derive(Drop)]
+#[derive(Clone, Copy)]
 pub enum Writing {
     Done(usize),
     Refused(Refusal),

@@ -7,7 +7,7 @@ use Rattle.book.proofs.entry_verdict.Tie as tie
 
 returns : tie.Need-returns
 returns c =
-    c.first.ensures ∙ ap₂ or_else c.before.before.hour-verdict.ensures (c.before.numbers-verdict.ensures ∙ sym (else_fine _))
+    c.first.ensures ∙ ap₂ or_else c.hour_verdict-of_hour.ensures (c.numbers_verdict-of_numbers.ensures ∙ sym (else_fine _))
 
 pub entry_verdict_spec : {M : Type 1} → statement M
 entry_verdict_spec =

@@ -2,8 +2,8 @@ use borrow.Author.Rules.{rules}
 use Rattle.book.proofs.first.Statement.{statement}
 use Rattle.book.proofs.first.Tie as tie
 
-returns_2 : tie.Need-returns-2
-returns_2 c = rw c.before.a.given.1
+returns_2 : tie.Need-returns-in-Refused
+returns_2 c = rw c.a-1.given.1
 
 pub first_spec : {M : Type 1} → statement M
 first_spec = tie.close

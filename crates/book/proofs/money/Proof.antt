@@ -3,7 +3,7 @@ use borrow.Author.Rules.{rules}
 use Rattle.book.proofs.money.Statement.{statement}
 use Rattle.book.proofs.money.Tie as tie
 
-mul_result : tie.Need-overflow-mul-result
+mul_result : tie.Need-overflow_mul-result
 mul_result c = record { fits = product_fits (search rules) (search rules) }
 
 pub money_spec : {M : Type 1} → statement M

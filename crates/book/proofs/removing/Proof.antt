@@ -5,12 +5,12 @@ use borrow.Author.Rules.{rules}
 use Rattle.book.proofs.removing.Statement.{statement}
 use Rattle.book.proofs.removing.Tie as tie
 
-turned_unless_refused_requires : tie.Need-turned-unless-refused-requires
+turned_unless_refused_requires : tie.Need-turned_unless_refused-requires
 turned_unless_refused_requires c κs =
-    λ e. room _ _ _ c.before.before.requires (subst Proper (sym c.nothing-held.ensures) proper_blank)
+    λ e. room _ _ _ c.requires (subst Proper (sym c.nothing_held-new.ensures) proper_blank)
 
 returns : tie.Need-returns
-returns c = rw (← c.before.before.hour-verdict.ensures, ← c.before.nothing-held.ensures) c.turned-unless-refused.ensures
+returns c = rw (← c.hour_verdict-verdict.ensures, ← c.nothing_held-new.ensures) c.turned_unless_refused.ensures
 
 pub removing_spec : {M : Type 1} → statement M
 removing_spec =

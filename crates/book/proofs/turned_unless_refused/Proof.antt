@@ -3,17 +3,17 @@ use borrow.Author.Rules.{rules}
 use Rattle.book.proofs.turned_unless_refused.Statement.{statement}
 use Rattle.book.proofs.turned_unless_refused.Tie as tie
 
-enum_told : tie.Need-enum-told
+enum_told : tie.Need-enum_told-1
 enum_told c = search rules
 
-totals_moved_requires : tie.Need-totals-moved-requires
-totals_moved_requires c κs = c.before.before.requires c.enum_told.given.1
+totals_moved_requires : tie.Need-totals_moved-totals-requires
+totals_moved_requires c κs = c.requires c.enum_told-1.given.1
 
-returns : tie.Need-returns
-returns c = told_fine _ _ _ _ _ c.before.enum_told.given.1 c.totals-moved.ensures
+returns : tie.Need-returns-in-Fine
+returns c = told_fine _ _ _ _ _ c.enum_told-1.given.1 c.totals_moved-totals.ensures
 
-returns_2 : tie.Need-returns-2
-returns_2 c = told_refused _ _ _ _ _ c.before.verdict.given.1
+returns_2 : tie.Need-returns-in-Refused
+returns_2 c = told_refused _ _ _ _ _ c.verdict-1.given.1
 
 pub turned_unless_refused_spec : {M : Type 1} → statement M
 turned_unless_refused_spec =

@@ -28,71 +28,55 @@ module _ (p : ℕ → ℕ) (n x : ℕ) where
       go (no m) = omega arith
 
 -- what is held below `low` is wanted whole, and of what is above `high` nothing
-abbrev invariant_loop : tie.invariant-loop
+abbrev invariant_loop : tie.invariant-loop-low
 invariant_loop keys values n demand low₀ high₀ low high =
     (held_below (at keys) (at values) n low ≤ demand)
     × ((k : ℕ) → k < n → high < at keys k → demand ≤ held_below (at keys) (at values) n (at keys k))
 
-abbrev decreases_loop : tie.decreases-loop
+abbrev decreases_loop : tie.decreases-loop-low
 decreases_loop keys values n demand low₀ high₀ low high = high - low
 
-loop_holds : tie.Need-loop-init invariant_loop decreases_loop
+loop_holds : tie.Need-loop-low-init invariant_loop decreases_loop
 loop_holds c =
-    let a = c.before.before.before.args in
+    let a = c.args in
     (rw below_zero (omega arith), λ k l h. absurd (omega (arith, peak_ge a.n k (at a.keys.now) l)))
 
-loop_less : tie.Need-loop-smaller invariant_loop decreases_loop
+loop_less : tie.Need-loop-low-smaller-then-left_of-eq0 invariant_loop decreases_loop
 loop_less c =
-    let now = c.before.before.before.before in
-    let a = now.before.before.before.before.args in
-    let middle : ℕ = now.loop.high - (now.loop.high - now.loop.low) / 2 in
-    omega (arith, c.highest-below.ensures, peak_under (at a.keys.now) a.n middle (omega arith))
+    let a = c.args in
+    let middle : ℕ = c.loop-low.high - (c.loop-low.high - c.loop-low.low) / 2 in
+    omega (arith, c.highest_below-high.ensures, peak_under (at a.keys.now) a.n middle (omega arith))
 
-loop_again : tie.Need-loop-preserved invariant_loop decreases_loop
+loop_again : tie.Need-loop-low-preserved-then-left_of-eq0 invariant_loop decreases_loop
 loop_again c =
-    let now = c.before.before.before.before in
-    let a = now.before.before.before.before.args in
+    let a = c.args in
     let p : ℕ → ℕ = at a.keys.now in
-    let middle : ℕ = now.loop.high - (now.loop.high - now.loop.low) / 2 in (
-      now.loop.invariant.0,
+    let middle : ℕ = c.loop-low.high - (c.loop-low.high - c.loop-low.low) / 2 in (
+      c.loop-low.invariant.0,
       λ k m h.
-          let over : middle ≤ p k = peak_over p a.n middle k m (omega (arith, c.highest-below.ensures)) in
+          let over : middle ≤ p k = peak_over p a.n middle k m (omega (arith, c.highest_below-high.ensures)) in
           omega (
             arith,
-            c.before.before.left-of.ensures,
+            c.left_of.ensures,
             below_mono p (at a.values.now) a.n middle (p k) over,
           ),
     )
 
-loop_again_2 : tie.Need-loop-preserved-2 invariant_loop decreases_loop
+loop_again_2 : tie.Need-loop-low-preserved invariant_loop decreases_loop
 loop_again_2 c =
-    let now = c.before.before.before.before in
-    let a = now.before.before.before.before.args in
-    let middle : ℕ = now.loop.high - (now.loop.high - now.loop.low) / 2 in
-    let gap : held_below (at a.keys.now) (at a.values.now) a.n c.lowest-from.result
+    let a = c.args in
+    let middle : ℕ = c.loop-low.high - (c.loop-low.high - c.loop-low.low) / 2 in
+    let gap : held_below (at a.keys.now) (at a.values.now) a.n c.lowest_from-low.result
     ≤ held_below (at a.keys.now) (at a.values.now) a.n middle =
-    below_gap (at a.keys.now) (at a.values.now) a.n middle c.lowest-from.result
-    c.lowest-from.ensures.2 in
-    (omega (arith, c.before.before.left-of.ensures), now.loop.invariant.1)
+    below_gap (at a.keys.now) (at a.values.now) a.n middle c.lowest_from-low.result
+    c.lowest_from-low.ensures.2 in
+    (omega (arith, c.left_of.ensures), c.loop-low.invariant.1)
 
 returns : tie.Need-returns invariant_loop decreases_loop
-returns c = record { wanted = c.before.loop.invariant.0; enough = λ k l h. c.before.loop.invariant.1 k l (omega arith) }
+returns c = record { wanted = c.loop-low.invariant.0; enough = λ k l h. c.loop-low.invariant.1 k l (omega arith) }
 
 pub close_in_spec : {M : Type 1} → statement M
 close_in_spec =
     tie.close
-    (tie.spec
-    invariant_loop
-    decreases_loop
-    (λ c κs. omega arith)
-    loop_holds
-    (λ c. omega arith)
-    (λ c. omega arith)
-    (λ c κs. omega arith)
-    (λ c κs. omega arith)
-    loop_less
-    loop_again
-    (λ c κs. omega arith)
-    (λ c. omega arith)
-    loop_again_2
-    returns)
+    (tie.spec invariant_loop decreases_loop (λ c κs. omega arith) loop_holds (λ c. omega arith) (λ c. omega arith)
+    (λ c κs. omega arith) (λ c κs. omega arith) loop_less loop_again (λ c κs. omega arith) (λ c. omega arith) loop_again_2 returns)

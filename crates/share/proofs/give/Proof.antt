@@ -19,124 +19,78 @@ use Rattle.share.proofs.Lacks.{total_pos, share_taken, lack_asked, lack_is}
 use Rattle.share.proofs.give.Statement.{statement}
 use Rattle.share.proofs.give.Tie as tie
 
-abbrev invariant_loop : tie.invariant-loop
+abbrev invariant_loop : tie.invariant-loop-i
 invariant_loop amount weights t x left out₀ rest₀ i₀ out rest i =
     (i ≤ length weights) × (length out ≡ length out₀) × (rest ≡ left - keyed (lack_of amount weights) one i x)
     × Filled 0 out₀ out i (share_of amount weights)
 
-abbrev decreases_loop : tie.decreases-loop
+abbrev decreases_loop : tie.decreases-loop-i
 decreases_loop amount weights t x left out₀ rest₀ i₀ out rest i = length weights - i
 
--- ways back: X-to-Y leads from the place X of the code to the earlier place Y
-abbrev shared_slice_known2_to_loop : tie.After-shared-slice-known2 invariant_loop decreases_loop → tie.At-loop invariant_loop decreases_loop
-shared_slice_known2_to_loop c = c.before.before.before
-
-abbrev shared_slice_known2_to_start : tie.After-shared-slice-known2 invariant_loop decreases_loop → tie.Start invariant_loop decreases_loop
-shared_slice_known2_to_start c = c.before.before.before.before.before.before
-
-abbrev lack_to_loop : tie.After-lack invariant_loop decreases_loop → tie.At-loop invariant_loop decreases_loop
-lack_to_loop c = c.before.before.before.before
-
-abbrev lack_to_start : tie.After-lack invariant_loop decreases_loop → tie.Start invariant_loop decreases_loop
-lack_to_start c = shared_slice_known2_to_start c.before
-
-abbrev unit_to_loop : tie.After-unit invariant_loop decreases_loop → tie.At-loop invariant_loop decreases_loop
-unit_to_loop c = c.before.before.before.before.before
-
-abbrev unit_to_start : tie.After-unit invariant_loop decreases_loop → tie.Start invariant_loop decreases_loop
-unit_to_start c = lack_to_start c.before
-
-abbrev less_to_lack : tie.After-less invariant_loop decreases_loop → tie.After-lack invariant_loop decreases_loop
-less_to_lack c = c.before.before.before
-
-abbrev less_to_loop : tie.After-less invariant_loop decreases_loop → tie.At-loop invariant_loop decreases_loop
-less_to_loop c = unit_to_loop c.before.before
-
-abbrev less_to_start : tie.After-less invariant_loop decreases_loop → tie.Start invariant_loop decreases_loop
-less_to_start c = unit_to_start c.before.before
-
-loop_holds : tie.Need-loop-init invariant_loop decreases_loop
+loop_holds : tie.Need-loop-i-init invariant_loop decreases_loop
 loop_holds c = (omega arith, refl, rw keyed_none (omega arith), filled_none 0 _ _)
 
-lack_requires : tie.Need-lack-requires invariant_loop decreases_loop
+lack_requires : tie.Need-lack-k-requires invariant_loop decreases_loop
 lack_requires c κs =
-    let a = (shared_slice_known2_to_start c).args in
-    let l = (shared_slice_known2_to_loop c).loop in
-    lack_asked a.amount a.weights.now a.t a.out.now (shared_slice_known2_to_start c).requires.0 l.i
-    (omega arith) _ (l.inv.3.kept l.i (le_refl l.i))
+    let a = c.args in
+    let l = c.loop-i in
+    lack_asked a.amount a.weights.now a.t a.out.now c.requires.0 l.i
+    (omega arith) _ (l.invariant.3.kept l.i (le_refl l.i))
 
 -- the lack is the definition's
-lacks : (c : tie.After-lack invariant_loop decreases_loop)
-    → c.lack.result ≡ lack_of (lack_to_start c).args.amount (lack_to_start c).args.weights.now
-    (lack_to_loop c).loop.i
+lacks : (c : tie.After-lack-k invariant_loop decreases_loop)
+    → c.lack-k.result ≡ lack_of c.args.amount c.args.weights.now
+    c.loop-i.i
 lacks c =
-    let a = (lack_to_start c).args in
-    lack_is a.amount a.weights.now a.t a.out.now (lack_to_start c).requires.0 (lack_to_loop c).loop.i
-    (omega arith) _ c.lack.ensures.0
+    let a = c.args in
+    lack_is a.amount a.weights.now a.t a.out.now c.requires.0 c.loop-i.i
+    (omega arith) _ c.lack-k.ensures.0
 
 -- the floor and the unit make the share
 shares : (c : tie.After-unit invariant_loop decreases_loop)
-    → at (unit_to_loop c).loop.out (unit_to_loop c).loop.i + c.unit.result
-    ≡ share_of (unit_to_start c).args.amount (unit_to_start c).args.weights.now (unit_to_loop c).loop.i
+    → at c.loop-i.out c.loop-i.i + c.unit.result
+    ≡ share_of c.args.amount c.args.weights.now c.loop-i.i
 shares c =
-    let a = (unit_to_start c).args in
-    let l = (unit_to_loop c).loop in
-    let h = (unit_to_start c).requires.0 in
+    let a = c.args in
+    let l = c.loop-i in
+    let h = c.requires.0 in
     omega (
       arith,
-      l.inv.3.kept l.i (le_refl l.i),
+      l.invariant.3.kept l.i (le_refl l.i),
       h.floors l.i (omega arith),
       c.unit.ensures,
       ap (λ (z : ℕ). taken z a.x 1 l.rest) (lacks c.before),
       share_taken a.amount a.weights.now (total_pos a.weights.now a.t h.sharing) a.x a.left
-          (unit_to_start c).requires.1 l.i l.rest (omega arith) l.inv.2,
+          c.requires.1 l.i l.rest (omega arith) l.invariant.2,
     )
 
-add_out : tie.Need-overflow-add-out invariant_loop decreases_loop
+add_out : tie.Need-overflow_add-out invariant_loop decreases_loop
 add_out c =
-    let a = (unit_to_start c).args in
-    omega (arith, shares c, share_most a.amount a.weights.now (unit_to_loop c).loop.i (omega arith))
+    let a = c.args in
+    omega (arith, shares c, share_most a.amount a.weights.now c.loop-i.i (omega arith))
 
-loop_again : tie.Need-loop-preserved invariant_loop decreases_loop
+loop_again : tie.Need-loop-i-preserved invariant_loop decreases_loop
 loop_again c =
-    let a = (less_to_start c).args in
-    let l = (less_to_loop c).loop in (
+    let a = c.args in
+    let l = c.loop-i in (
       omega arith,
       search rules,
       omega (
         arith,
         keyed_step (lack_of a.amount a.weights.now) one l.i a.x,
-        ap (λ (z : ℕ). pick (eqb z a.x) 1) (lacks (less_to_lack c)),
+        ap (λ (z : ℕ). pick (eqb z a.x) 1) (lacks c.before.before.before),
       ),
-      filled_more 0 _ _ _ _ _ (omega arith) (shares c.before.before) l.inv.3,
+      filled_more 0 _ _ _ _ _ (omega arith) (shares c.before.before) l.invariant.3,
     )
 
 returns : tie.Need-returns invariant_loop decreases_loop
 returns c =
-    let at_start = c.before.before.before.before in
-    let e : c.before.loop.i ≡ length at_start.args.weights.now = omega arith in
-    rw e at c.before.loop.invariant.3
+    let e : c.loop-i.i ≡ length c.args.weights.now = omega arith in
+    rw e at c.loop-i.invariant.3
 
 pub give_spec : {M : Type 1} → statement M
 give_spec =
     tie.close
-    (tie.spec
-    invariant_loop
-    decreases_loop
-    loop_holds
-    (λ c. search rules)
-    (λ c. search rules)
-    (λ c. search rules)
-    (λ c. search rules)
-    lack_requires
-    (λ c κs. search rules)
-    add_out
-    (λ c. search rules)
-    (λ c. search rules)
-    (λ c κs. search rules)
-    (λ c κs. search rules)
-    (λ c. search rules)
-    (λ c. search rules)
-    loop_again
-    (λ c. search rules)
-    returns)
+    (tie.spec invariant_loop decreases_loop loop_holds (λ c. search rules) (λ c. search rules) (λ c. search rules)
+    (λ c. search rules) lack_requires (λ c κs. search rules) add_out (λ c. search rules) (λ c. search rules)
+    (λ c κs. search rules) (λ c κs. search rules) (λ c. search rules) (λ c. search rules) loop_again (λ c. search rules) returns)

@@ -4,7 +4,7 @@ use Rattle.share.proofs.rate_of.Statement.{statement}
 use Rattle.share.proofs.rate_of.Tie as tie
 
 returns : tie.Need-returns
-returns c = rw (c.lower.ensures, c.before.wide.ensures) (rate_is c.before.before.args.amount c.before.before.args.t)
+returns c = rw (c.lower.ensures, c.wide.ensures) (rate_is c.args.amount c.args.t)
 
 pub rate_of_spec : {M : Type 1} → statement M
 rate_of_spec =
