@@ -5,10 +5,10 @@ use Rattle.sheet.proofs.boundary_row_good.Tie as tie
 returns : tie.Need-returns
 returns c =
     rw (
-      c.boundary-good.ensures,
-      c.before.kind_in_lem.ensures,
-      c.before.before.boundary_blank_lem.ensures,
-      c.before.before.before.boundary-of.ensures,
+      c.boundary_good.ensures,
+      c.kind_in.ensures,
+      c.boundary_blank.ensures,
+      c.boundary_of-b.ensures,
     )
 
 pub boundary_row_good_spec : {M : Type 1} → statement M

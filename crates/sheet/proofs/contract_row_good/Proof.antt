@@ -5,10 +5,10 @@ use Rattle.sheet.proofs.contract_row_good.Tie as tie
 returns : tie.Need-returns
 returns c =
     rw (
-      c.contract-good.ensures,
-      c.before.kind-in2.ensures,
-      c.before.before.kind_in_lem.ensures,
-      c.before.before.before.contract-of.ensures,
+      c.contract_good.ensures,
+      c.kind_in-2.ensures,
+      c.kind_in.ensures,
+      c.contract_of-k.ensures,
     )
 
 pub contract_row_good_spec : {M : Type 1} → statement M

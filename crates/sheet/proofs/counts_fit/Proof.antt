@@ -4,8 +4,7 @@ use Rattle.sheet.proofs.counts_fit.Tie as tie
 
 returns : tie.Need-returns
 returns c =
-    let start = c.before.before.before in
-    rw (← start.requires.0, ← c.before.counts_good_lem.ensures, ← c.size.ensures)
+    rw (← c.requires.0, ← c.counts_good.ensures, ← c.size.ensures)
 
 pub counts_fit_spec : {M : Type 1} → statement M
 counts_fit_spec = tie.close (tie.spec (λ c κs. search rules) (λ c κs. search rules) returns)

@@ -2,11 +2,11 @@ use borrow.Author.Rules.{rules}
 use Rattle.sheet.proofs.fields_in.Statement.{statement}
 use Rattle.sheet.proofs.fields_in.Tie as tie
 
-enum_told : tie.Need-enum-told
+enum_told : tie.Need-enum_told-1
 enum_told c = search rules
 
-returns_2 : tie.Need-returns-2
-returns_2 c = rw c.enum_told.given.1
+returns_2 : tie.Need-returns-in-Refused
+returns_2 c = rw c.in-Refused.is
 
 pub fields_in_spec : {M : Type 1} → statement M
 fields_in_spec = tie.close

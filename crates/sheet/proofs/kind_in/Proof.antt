@@ -3,7 +3,7 @@ use Rattle.sheet.proofs.kind_in.Statement.{statement}
 use Rattle.sheet.proofs.kind_in.Tie as tie
 
 returns : tie.Need-returns
-returns c = rw (c.agent-of.ensures, c.before.row_at_lem.ensures)
+returns c = rw (c.agent_of-agent.ensures, c.row_at.ensures)
 
 pub kind_in_spec : {M : Type 1} → statement M
 kind_in_spec = tie.close

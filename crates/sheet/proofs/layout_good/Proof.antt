@@ -6,8 +6,7 @@ use Rattle.sheet.proofs.layout_good.Tie as tie
 returns : tie.Need-returns
 unfolding layout_good
 returns c =
-    let start = c.before.before.before in
-    rw (← c.before.counts-fit.ensures, ← start.requires.1, ← c.distances-good.ensures)
+    rw (← c.counts_fit.ensures, ← c.requires.1, ← c.distances_good.ensures)
 
 pub layout_good_spec : {M : Type 1} → statement M
 layout_good_spec =

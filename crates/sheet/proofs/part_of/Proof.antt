@@ -6,32 +6,28 @@ use borrow.Author.Rules.{rules}
 use Rattle.sheet.proofs.part_of.Statement.{statement}
 use Rattle.sheet.proofs.part_of.Tie as tie
 
-rows_before_requires : tie.Need-rows-before-requires
-rows_before_requires c κs = c.before.requires.1
+rows_before_requires : tie.Need-rows_before-a-requires
+rows_before_requires c κs = c.requires.1
 
-mul_a : tie.Need-overflow-mul-a
+mul_a : tie.Need-overflow_mul-a
 mul_a c =
-    let a = c.before.before in
-    omega (arith, a.requires, section_within a.args.c a.args.k)
+    omega (arith, c.requires, section_within c.args.c c.args.k)
 
-mul_e : tie.Need-overflow-mul-e
+mul_e : tie.Need-overflow_mul-e
 mul_e c =
-    let a = c.before.before.before in
-    omega (arith, a.requires, section_within a.args.c a.args.k)
+    omega (arith, c.requires, section_within c.args.c c.args.k)
 
-add_e : tie.Need-overflow-add-e
+add_e : tie.Need-overflow_add-e
 add_e c =
-    let a = c.before.before.before in
-    omega (arith, a.requires, section_within a.args.c a.args.k)
+    omega (arith, c.requires, section_within c.args.c c.args.k)
 
-part_result_end : tie.Need-slice-bounds-result-end
+part_result_end : tie.Need-slice_bounds-result-end
 part_result_end c =
-    let a = c.before.before.before in
-    omega (arith, a.requires, section_within a.args.c a.args.k)
+    omega (arith, c.requires, section_within c.args.c c.args.k)
 
 returns : tie.Need-returns
 unfolding section_of
-returns c = rw (add-sub_cancel_left, ← c.before.before.rows_before.ensures, ← c.before.rows_in.ensures)
+returns c = rw (add-sub_cancel_left, ← c.rows_before-a.ensures, ← c.rows_in.ensures)
 
 pub part_of_spec : {M : Type 1} → statement M
 part_of_spec =

@@ -4,30 +4,29 @@ use borrow.Author.Rules.{rules}
 use Rattle.sheet.proofs.rows_before.Statement.{statement}
 use Rattle.sheet.proofs.rows_before.Tie as tie
 
-returns : tie.Need-returns
+returns : tie.Need-returns-in-1
 unfolding rows_before
-returns c = rw c.match.keys1
+returns c = rw c.in-1.is
 
-returns_2 : tie.Need-returns-2
+returns_2 : tie.Need-returns-in-2
 unfolding rows_before
-returns_2 c = rw c.match.keys2
+returns_2 c = rw c.in-2.is
 
-returns_3 : tie.Need-returns-3
+returns_3 : tie.Need-returns-in-3
 unfolding rows_before
-returns_3 c = rw c.before.match.keys3
+returns_3 c = rw c.in-3.is
 
-returns_4 : tie.Need-returns-4
+returns_4 : tie.Need-returns-in-4
 unfolding rows_before
-returns_4 c = rw c.before.before.match.keys4
+returns_4 c = rw c.in-4.is
 
-returns_5 : tie.Need-returns-5
+returns_5 : tie.Need-returns-in_default
 unfolding rows_before
 returns_5 c =
-    let r = c.match.rest in
+    let r = c.in_default.in_default-own.rest in
     rw (ne_eqb _ _ r.0.0.0.1, ne_eqb _ _ r.0.0.1, ne_eqb _ _ r.0.1, ne_eqb _ _ r.1)
 
 pub rows_before_spec : {M : Type 1} → statement M
 rows_before_spec =
     tie.close
-    (tie.spec (λ c. search rules) (λ c. search rules) (λ c. search rules) returns returns_2 returns_3 returns_4
-    returns_5)
+    (tie.spec (λ c. search rules) (λ c. search rules) (λ c. search rules) returns returns_2 returns_3 returns_4 returns_5)

@@ -3,16 +3,15 @@ use borrow.Author.Rules.{rules}
 use Rattle.sheet.proofs.asking.ask_row.Statement.{statement}
 use Rattle.sheet.proofs.asking.ask_row.Tie as tie
 
-kept_row_requires : tie.Need-kept-row-requires
-kept_row_requires c κs = sym c.before.before.before.read.ensures ∙ c.before.c.given.1
+kept_row_requires : tie.Need-kept_row-requires
+kept_row_requires c κs = sym c.read.ensures ∙ c.in-Accepted.is
 
-returns : tie.Need-returns
+returns : tie.Need-returns-in-Accepted
 returns c =
-    let d = c.before.before in
-    rw (← d.before.before.read.ensures, d.c.given.1) c.kept_row.ensures
+    rw (← c.read.ensures, c.in-Accepted.is) c.kept_row.ensures
 
-returns_2 : tie.Need-returns-2
-returns_2 c = rw (← c.before.before.before.read.ensures, c.before.why.given.1)
+returns_2 : tie.Need-returns-in-Refused
+returns_2 c = rw (← c.read.ensures, c.in-Refused.is)
 
 pub ask_row_spec : {M : Type 1} → statement M
 ask_row_spec =

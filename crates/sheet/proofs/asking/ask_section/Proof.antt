@@ -2,14 +2,14 @@ use borrow.Author.Rules.{rules}
 use Rattle.sheet.proofs.asking.ask_section.Statement.{statement}
 use Rattle.sheet.proofs.asking.ask_section.Tie as tie
 
-enum_told : tie.Need-enum-told
+enum_told : tie.Need-enum_told-1
 enum_told c = search rules
 
-returns : tie.Need-returns
-returns c = rw (← c.before.before.before.read.ensures, c.before.enum_told.given.1) c.asked-section.ensures
+returns : tie.Need-returns-in-Accepted
+returns c = rw (← c.read.ensures, c.in-Accepted.is) c.asked_section.ensures
 
-returns_2 : tie.Need-returns-2
-returns_2 c = rw (← c.before.before.before.read.ensures, c.before.why.given.1)
+returns_2 : tie.Need-returns-in-Refused
+returns_2 c = rw (← c.read.ensures, c.in-Refused.is)
 
 pub ask_section_spec : {M : Type 1} → statement M
 ask_section_spec =

@@ -4,10 +4,10 @@ use borrow.Author.Rules.{rules}
 use Rattle.sheet.proofs.asking.section_of.Statement.{statement}
 use Rattle.sheet.proofs.asking.section_of.Tie as tie
 
-part_of_requires : tie.Need-part-of-requires
+part_of_requires : tie.Need-part_of-requires
 part_of_requires c κs =
-    let f = accepted_few _ _ c.before.requires in
-    (accepted_length _ _ c.before.requires, omega arith)
+    let f = accepted_few _ _ c.requires in
+    (accepted_length _ _ c.requires, omega arith)
 
 pub section_of_spec : {M : Type 1} → statement M
 section_of_spec = tie.close

@@ -11,25 +11,23 @@ use Rattle.sheet.proofs.counting.count_rows.Statement.{statement}
 use Rattle.sheet.proofs.counting.count_rows.Tie as tie
 
 -- the length is good
-long : (c : tie.Else1) → length_good (length c.before.before.before.args.s.now) ≡ true
-long c = sym c.before.length-good.ensures ∙ not-false _ c.if1.false
+long : (c : tie.Else-not-length_good) → length_good (length c.args.s.now) ≡ true
+long c = sym c.length_good.ensures ∙ c.if-not-length_good.false
 
-returns : tie.Need-returns
-returns c = sym (count_short _ (sym c.before.length-good.ensures ∙ not-true _ c.if1.true))
+returns : tie.Need-returns-then-not-length_good
+returns c = sym (count_short _ (sym c.length_good.ensures ∙ c.if-not-length_good.true))
 
-counts_of_requires : tie.Need-counts-of-requires
+counts_of_requires : tie.Need-counts_of-c-requires
 counts_of_requires c κs = has_trailer _ (long c)
 
-returns_2 : tie.Need-returns-2
+returns_2 : tie.Need-returns-then-counts_fit
 returns_2 c =
-    let at_counts = c.before.before in
-    ap Counting.Rows at_counts.Counts-of.ensures.0
-    ∙ sym (count_fits _ (long at_counts.before) (sym c.before.counts-fit.ensures ∙ c.if2.true))
+    ap Counting.Rows c.counts_of-c.ensures.0
+    ∙ sym (count_fits _ (long c.before.before.before) (sym c.counts_fit.ensures ∙ c.if-counts_fit.true))
 
-returns_3 : tie.Need-returns-3
+returns_3 : tie.Need-returns-else-counts_fit
 returns_3 c =
-    let at_counts = c.before.before in
-    sym (count_crooked _ (long at_counts.before) (sym c.before.counts-fit.ensures ∙ c.if2.false))
+    sym (count_crooked _ (long c.before.before.before) (sym c.counts_fit.ensures ∙ c.if-counts_fit.false))
 
 pub count_rows_spec : {M : Type 1} → statement M
 count_rows_spec =
