@@ -1,0 +1,29 @@
+-- The slot is a place of the book, the totals have room for a removal there, and what is told of it is the book's.
+use Rattle.std.proofs.Common.{arith}
+use Rattle.book.specs.Book.{slot_verdict, blank}
+use Rattle.book.specs.Told.{slot_of}
+use Rattle.book.proofs.Laws.{kept_carries, slot_within, told_does, fine_hour}
+use Rattle.book.proofs.remove.Goals as goal
+
+pub offset_bounds-book-at : goal.offset_bounds-book-at
+offset_bounds-book-at c = let l = slot_within c.args.hour in omega (arith, c.slot-at.ensures)
+
+pub bounds-book-at : goal.bounds-book-at
+bounds-book-at c = let l = slot_within c.args.hour in omega (arith, c.slot-at.ensures)
+
+pub removing-told-requires : goal.removing-told-requires
+removing-told-requires c =
+    rw c.slot-at.ensures (kept_carries c.args.book.now c.requires (slot_of c.args.hour) (slot_within c.args.hour))
+
+pub offset_bounds-book-at-2 : goal.offset_bounds-book-at-2
+offset_bounds-book-at-2 c = let l = slot_within c.args.hour in omega (arith, c.slot-at.ensures)
+
+pub bounds-book-at-2 : goal.bounds-book-at-2
+bounds-book-at-2 c = let l = slot_within c.args.hour in omega (arith, c.slot-at.ensures)
+
+pub returns : goal.returns
+returns c =
+    let a = c.args in
+    let v = slot_verdict a.hour in
+    rw (c.removing-told.ensures, c.slot-at.ensures)
+    (told_does a.book.now a.hour blank v (fine_hour a.hour))
