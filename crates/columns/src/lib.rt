@@ -1,3 +1,2 @@
 // An accepted sheet by its columns, as a definition and its laws: no code stands here.
 #![tactic(auto)]
-

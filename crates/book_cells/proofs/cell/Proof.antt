@@ -4,8 +4,8 @@ use borrow.Author.Rules.{rules}
 use Rattle.book_cells.proofs.cell.Statement.{statement}
 use Rattle.book_cells.proofs.cell.Tie as tie
 
-returns_2 : tie.Need-returns-2
-returns_2 c = sym (get_or-eq_default c.before.args.cells.now 0 c.if1.false)
+returns_2 : tie.Need-returns-else-k-cells
+returns_2 c = sym (get_or-eq_default c.args.cells.now 0 c.if-k-cells.false)
 
 pub cell_spec : {M : Type 1} → statement M
 cell_spec = tie.close (tie.spec (λ c. search rules) (λ c. search rules) (λ c. search rules) returns_2)

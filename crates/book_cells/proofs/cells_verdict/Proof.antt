@@ -7,12 +7,11 @@ use Rattle.book_cells.proofs.cells_verdict.Tie as tie
 
 returns : tie.Need-returns
 returns c =
-    let at_looked = c.before.before in
-    let cells = at_looked.before.before.before.args.cells.now in
-    let own = at_looked.before.before.before.args.own in
-    c.first2.ensures
-    ∙ ap₂ or_else at_looked.before.room-verdict.ensures
-    (c.before.first.ensures ∙ ap (or_else own) at_looked.looked-verdict.ensures)
+    let cells = c.args.cells.now in
+    let own = c.args.own in
+    c.first.ensures
+    ∙ ap₂ or_else c.room_verdict-room.ensures
+    (c.first-rest.ensures ∙ ap (or_else own) c.looked_verdict-looked.ensures)
     ∙ verdict_is cells _ own
 
 pub cells_verdict_spec : {M : Type 1} → statement M

@@ -4,11 +4,11 @@ use borrow.Author.Rules.{rules}
 use Rattle.book_cells.proofs.room_verdict.Statement.{statement}
 use Rattle.book_cells.proofs.room_verdict.Tie as tie
 
-returns : tie.Need-returns
-returns c = c.refuse.ensures ∙ simp (lt-leb _ _ c.before.if1.true)
+returns : tie.Need-returns-then-cells-lt-ALL
+returns c = c.refuse.ensures ∙ simp (lt-leb _ _ c.if-cells-lt-ALL.true)
 
-returns_2 : tie.Need-returns-2
-returns_2 c = simp (le-leb _ _ c.if1.false)
+returns_2 : tie.Need-returns-else-cells-lt-ALL
+returns_2 c = simp (le-leb _ _ c.if-cells-lt-ALL.false)
 
 pub room_verdict_spec : {M : Type 1} → statement M
 room_verdict_spec = tie.close (tie.spec (λ c κs. search rules) returns returns_2)
