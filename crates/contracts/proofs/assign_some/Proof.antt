@@ -8,45 +8,32 @@ use Rattle.contracts.proofs.Uncut.{cut_full}
 use Rattle.contracts.proofs.assign_some.Statement.{statement}
 use Rattle.contracts.proofs.assign_some.Tie as tie
 
--- ways back: X-to-Y leads from the place X of the code to the earlier place Y
-abbrev part_arg_to_start : tie.After-part-arg2 → tie.Start
-part_arg_to_start c = c.before.before.before.before.before.before.before.before
-
-abbrev serve_arg_to_part : tie.After-serve-all-arg2 → tie.After-part
-serve_arg_to_part c = c.before.before.before.before.before.before.before.before
-
 -- a cell a buyer
 cells : (c : tie.Start) → length c.args.next.now ≡ length c.args.demands.now
 cells c = c.requires.1.1.long
 
 part_requires : tie.Need-part-requires
 part_requires c κs =
-    let start = part_arg_to_start c in
-    let cuts = start.pre.1.0 in (
-      (omega arith, start.pre.0.1),
-      (cuts.long, rw (cells start) (bounded _ _ start.pre.0.0), rw (cells start) start.pre.1.1),
+    let cuts = c.requires.1.0 in (
+      (omega arith, c.requires.0.1),
+      (cuts.long, rw (cells c.before.before.before.before.before.before.before.before) (bounded _ _ c.requires.0.0), rw (cells c.before.before.before.before.before.before.before.before) c.requires.1.1),
     )
 
-serve_all_requires : tie.Need-serve-all-requires
+serve_all_requires : tie.Need-serve_all-requires
 serve_all_requires c κs =
-    let parted = serve_arg_to_part c in
-    let start = part_arg_to_start parted.before in
-    let cut = rw (cells start) at parted.part.ensures.0.cut in (
-      (start.pre.0.0, omega (arith, parted.part.ensures.0.uncut.long, start.pre.0.1)),
+    let cut = rw (cells c.before.before.before.before.before.before.before.before.before.before.before.before.before.before.before.before) at c.part.ensures.0.cut in (
+      (c.requires.0.0, omega (arith, c.part.ensures.0.uncut.long, c.requires.0.1)),
       (
-        start.pre.1.0,
-        omega (arith, cut.long, few_rows_lem _ _ start.pre.0.0),
-        rw (cells start) at parted.part.ensures.1,
+        c.requires.1.0,
+        omega (arith, cut.long, few_rows_lem _ _ c.requires.0.0),
+        rw (cells c.before.before.before.before.before.before.before.before.before.before.before.before.before.before.before.before) at c.part.ensures.1,
         record { each = cut.each; long = refl },
       ),
     )
 
 returns : tie.Need-returns
 returns c =
-    let served = c.before.before.before in
-    let parted = serve_arg_to_part served.before in
-    let start = part_arg_to_start parted.before in
-    cut_full _ _ start.pre.0.0 _ start.pre.1.0 _ _ _ parted.part.ensures.0.uncut served.serve-all.ensures
+    cut_full _ _ c.requires.0.0 _ c.requires.1.0 _ _ _ c.part.ensures.0.uncut c.serve_all.ensures
 
 pub assign_some_spec : {M : Type 1} → statement M
 assign_some_spec =

@@ -13,87 +13,56 @@ use Rattle.contracts.proofs.Verdicts.{fine_ready, planned_not, planned_none, pla
 use Rattle.contracts.proofs.survey.Statement.{statement}
 use Rattle.contracts.proofs.survey.Tie as tie
 
--- ways back: X-to-Y leads from the place X of the code to the earlier place Y
-abbrev counts_to_start : tie.After-counts → tie.Start
-counts_to_start c = c.before.before.before.before.before.before.before
-
-abbrev told_to_judge : tie.After-enum-told → tie.After-judge
-told_to_judge c = c.before.before.before.before.before
-
-abbrev told_to_start : tie.After-enum-told → tie.Start
-told_to_start c = counts_to_start (told_to_judge c).before
-
-abbrev decide_to_told : tie.After-decide → tie.After-enum-told
-decide_to_told c = c.before.before
-
-abbrev decide_to_start : tie.After-decide → tie.Start
-decide_to_start c = told_to_start (decide_to_told c)
-
-abbrev spots_arg_to_decide : tie.After-spots-arg2 → tie.After-decide
-spots_arg_to_decide c = c.before.before.before.before.before.before
-
-abbrev spots_arg_to_then : tie.After-spots-arg2 → tie.Then1
-spots_arg_to_then c = c.before.before.before
-
-answer : (c : tie.After-enum-told)
+answer : (c : tie.In-Fine)
     → Verdict.Fine
-    ≡ assign_verdict (told_to_start c).args.section.now (told_to_start c).args.demands.now (told_to_start c).args.out.now
-answer c = sym c.enum_told.given.1 ∙ (told_to_judge c).judge.ensures.answer
+    ≡ assign_verdict c.args.section.now c.args.demands.now c.args.out.now
+answer c = sym c.in-Fine.is ∙ c.judge-verdict.ensures.answer
 
-ready : (c : tie.After-enum-told) → Ready (deals_in (told_to_start c).args.section.now) (told_to_start c).args.demands.now
-ready c = (fine_ready _ _ (told_to_start c).args.out.now (sym (answer c))).0
+ready : (c : tie.In-Fine) → Ready (deals_in c.args.section.now) c.args.demands.now
+ready c = (fine_ready _ _ c.args.out.now (sym (answer c))).0
 
 -- what was decided is what the sides ask for
-cuts : (c : tie.After-decide)
-    → Cuts (decide_to_start c).args.section.now (decide_to_start c).args.demands.now c.decide.new.1.0
+cuts : (c : tie.After-decide-some)
+    → Cuts c.args.section.now c.args.demands.now c.decide-some.new.totals
 cuts c =
-    let told = decide_to_told c in
-    decided_cuts _ _ (ready told) _ _ ((told_to_judge told).judge.ensures.held told.enum_told.given.1) c.decide.ensures.0
+    decided_cuts _ _ (ready c.before.before) _ _ (c.judge-verdict.ensures.held c.in-Fine.is) c.decide-some.ensures.0
 
-counted : (c : tie.After-enum-told)
-    → Numbered (told_to_start c).args.section.now (count_in (told_to_start c).args.section.now)
-    (told_to_judge c).judge.new.1.1.1.1.0
-counted c = (told_to_judge c).judge.ensures.counted c.enum_told.given.1
+counted : (c : tie.In-Fine)
+    → Numbered c.args.section.now (count_in c.args.section.now)
+    c.judge-verdict.new.counts
+counted c = c.judge-verdict.ensures.counted c.in-Fine.is
 
-judge_requires : tie.Need-judge-requires
-judge_requires c κs = ((counts_to_start c).requires.0, added_none _ _ _)
+judge_requires : tie.Need-judge-verdict-requires
+judge_requires c κs = (c.requires.0, added_none _ _ _)
 
-returns : tie.Need-returns
+returns : tie.Need-returns-in_default
 returns c =
-    let judged = c.before.before.before.before.before in
-    planned_not _ _ _ _ _ (counts_to_start judged.before).requires.1 _ _ _ judged.judge.ensures.answer c.enum-told2.given.1
+    planned_not _ _ _ _ _ c.requires.1 _ _ _ c.judge-verdict.ensures.answer c.in_default.is
 
-decide_requires : tie.Need-decide-requires
+decide_requires : tie.Need-decide-some-requires
 decide_requires c κs =
-    let told = c.before in
-    ((ready told).agents, ((told_to_judge told).judge.ensures.held told.enum_told.given.1).long)
+    ((ready c.before).agents, (c.judge-verdict.ensures.held c.in-Fine.is).long)
 
 spots_requires : tie.Need-spots-requires
-spots_requires c κs =
-    let decided = spots_arg_to_decide c in
-    let told = decide_to_told decided in (
-      ((ready told).agents, (cuts decided).long, (counted told).long, (decide_to_start decided).pre.1),
-      (decided_most _ _ (ready told) _ (cuts decided), spots_few _ _ (ready told) _ (cuts decided) _ (counted told)),
-    )
+spots_requires c κs = (
+  ((ready c.before.before.before.before.before.before.before).agents, (cuts c.before.before.before.before.before).long, (counted c.before.before.before.before.before.before.before).long, c.requires.1),
+  (decided_most _ _ (ready c.before.before.before.before.before.before.before) _ (cuts c.before.before.before.before.before), spots_few _ _ (ready c.before.before.before.before.before.before.before) _ (cuts c.before.before.before.before.before) _ (counted c.before.before.before.before.before.before.before)),
+)
 
-returns_2 : tie.Need-returns-2
+returns_2 : tie.Need-returns-then-some
 returns_2 c =
-    let spotted = c.before.before in
-    let decided = spots_arg_to_decide spotted.before in
-    let told = decide_to_told decided in
-    let spots = spotted.spots.ensures in
-    planned_some _ _ _ _ _ spots.long _ _ (told_to_judge told).judge.ensures.answer (cuts decided)
-    (spots_arg_to_then spotted.before).if1.true (spots_next _ _ (ready told) _ (cuts decided) _ (counted told) _ spots)
+    let spots = c.spots.ensures in
+    planned_some _ _ _ _ _ spots.long _ _ c.judge-verdict.ensures.answer (cuts c.before.before.before.before.before.before.before.before)
+    c.if-some.true (spots_next _ _ (ready c.before.before.before.before.before.before.before.before.before.before) _ (cuts c.before.before.before.before.before.before.before.before) _ (counted c.before.before.before.before.before.before.before.before.before.before) _ spots)
 
-returns_3 : tie.Need-returns-3
+returns_3 : tie.Need-returns-else-some
 returns_3 c =
-    let decided = c.before.before.before in
-    let told = decide_to_told decided in
-    planned_none _ _ _ _ _ (decide_to_start decided).requires.1 _ _ (told_to_judge told).judge.ensures.answer (cuts decided) c.if1.false
-    (λ b l. decided.decide.ensures.0.cut b l ∙ decided.decide.ensures.1 c.if1.false b l)
+    planned_none _ _ _ _ _ c.requires.1 _ _ c.judge-verdict.ensures.answer (cuts c.before.before.before) c.if-some.false
+    (λ b l. c.decide-some.ensures.0.cut b l ∙ c.decide-some.ensures.1 c.if-some.false b l)
 
 pub survey_spec : {M : Type 1} → statement M
 survey_spec =
     tie.close
-    (tie.spec (λ c. search rules) judge_requires (λ c. search rules) (λ c. search rules) (λ c. search rules) returns decide_requires
-    (λ c. search rules) spots_requires (λ c. search rules) (λ c. search rules) returns_2 (λ c. search rules) returns_3)
+    (tie.spec (λ c. search rules) judge_requires (λ c. search rules) (λ c. search rules) (λ c. search rules) returns
+    decide_requires (λ c. search rules) spots_requires (λ c. search rules) (λ c. search rules) returns_2 (λ c. search rules)
+    returns_3)

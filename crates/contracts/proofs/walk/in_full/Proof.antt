@@ -9,38 +9,31 @@ use Rattle.contracts.proofs.Walks.{scattered_none, scattered_fits, scattered_mor
 use Rattle.contracts.proofs.walk.in_full.Statement.{statement}
 use Rattle.contracts.proofs.walk.in_full.Tie as tie
 
-abbrev invariant_loop : tie.invariant-loop
+abbrev invariant_loop : tie.invariant-loop-p
 invariant_loop section keys out₀ p₀ out p = (p ≤ length keys) × Scattered keys p (λ u. quantity_of section (at keys u)) out₀ out
 
-abbrev decreases_loop : tie.decreases-loop
+abbrev decreases_loop : tie.decreases-loop-p
 decreases_loop section keys out₀ p₀ out p = length keys - p
 
--- ways back: X-to-Y leads from the place X of the code to the earlier place Y
-abbrev row_to_loop : tie.After-row-of invariant_loop decreases_loop → tie.At-loop invariant_loop decreases_loop
-row_to_loop c = c.before.before.before.before
-
-abbrev row_to_start : tie.After-row-of invariant_loop decreases_loop → tie.Start invariant_loop decreases_loop
-row_to_start c = (row_to_loop c).before.before.before.before
-
-row_fits : tie.Need-slice-write-out invariant_loop decreases_loop
+row_fits : tie.Need-bounds-out-row_of invariant_loop decreases_loop
 row_fits c =
-    scattered_fits (row_to_start c).requires (omega arith) c.row_of.ensures (row_to_loop c).loop.invariant.1
+    scattered_fits c.requires (omega arith) c.row_of.ensures c.loop-p.invariant.1
 
-loop_again : tie.Need-loop-preserved invariant_loop decreases_loop
+loop_again : tie.Need-loop-p-preserved invariant_loop decreases_loop
 loop_again c = (
   omega arith,
-  scattered_more (row_to_start c).requires (omega arith) c.row_of.ensures c.before.quantity-of.ensures
-      (row_to_loop c).loop.invariant.1,
+  scattered_more c.requires (omega arith) c.row_of.ensures c.quantity_of.ensures
+      c.loop-p.invariant.1,
 )
 
 returns : tie.Need-returns invariant_loop decreases_loop
 returns c =
-    let e : c.before.loop.p ≡ length c.before.before.before.before.before.args.keys.now = omega arith in
-    rw e at c.before.loop.invariant.1
+    let e : c.loop-p.p ≡ length c.args.keys.now = omega arith in
+    rw e at c.loop-p.invariant.1
 
 pub in_full_spec : {M : Type 1} → statement M
 in_full_spec =
     tie.close
     (tie.spec invariant_loop decreases_loop (λ c. (omega arith, scattered_none)) (λ c. omega arith) (λ c. omega arith)
-    (λ c κs. search rules) (λ c κs. search rules) (λ c. omega (arith, row_fits c)) row_fits (λ c. omega arith)
-    (λ c. omega arith) loop_again (λ c. c.before.loop.invariant.1.long) returns)
+    (λ c κs. search rules) (λ c κs. search rules) (λ c. omega (arith, row_fits c)) row_fits (λ c. omega arith) (λ c. omega arith)
+    loop_again (λ c. c.loop-p.invariant.1.long) returns)

@@ -9,8 +9,8 @@ use Rattle.contracts.proofs.walk.quantity_of.Tie as tie
 returns : tie.Need-returns
 returns c =
     ap (λ (k : Contract). k.quantity)
-    (c.contract-of.ensures ∙ ap contract_of c.before.row_at_lem.ensures
-    ∙ ap (deal_in c.before.before.before.before.args.section.now) c.before.before.row_of.ensures)
+    (c.contract_of.ensures ∙ ap contract_of c.row_at.ensures
+    ∙ ap (deal_in c.args.section.now) c.row_of.ensures)
 
 pub quantity_of_spec : {M : Type 1} → statement M
 quantity_of_spec =

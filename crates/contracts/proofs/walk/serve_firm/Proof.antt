@@ -14,71 +14,58 @@ use Rattle.contracts.proofs.Walks.{scattered_none, scattered_fits, scattered_mor
 use Rattle.contracts.proofs.walk.serve_firm.Statement.{statement}
 use Rattle.contracts.proofs.walk.serve_firm.Tie as tie
 
-abbrev invariant_loop : tie.invariant-loop
+abbrev invariant_loop : tie.invariant-loop-p
 invariant_loop section keys left out₀ tally₀ p₀ out tally p =
     (p ≤ length keys) × (tally.left ≡ left_at section keys left p) × Scattered keys p (firm_amount section keys left) out₀ out
 
-abbrev decreases_loop : tie.decreases-loop
+abbrev decreases_loop : tie.decreases-loop-p
 decreases_loop section keys left out₀ tally₀ p₀ out tally p = length keys - p
 
--- ways back: X-to-Y leads from the place X of the code to the earlier place Y
-abbrev row_to_quantity : tie.After-row-of invariant_loop decreases_loop → tie.After-quantity-of invariant_loop decreases_loop
-row_to_quantity c = c.before.before.before
-
-abbrev row_to_loop : tie.After-row-of invariant_loop decreases_loop → tie.At-loop invariant_loop decreases_loop
-row_to_loop c = (row_to_quantity c).before.before.before
-
-abbrev row_to_start : tie.After-row-of invariant_loop decreases_loop → tie.Start invariant_loop decreases_loop
-row_to_start c = (row_to_loop c).before.before.before.before
-
-row_fits : tie.Need-slice-write-out invariant_loop decreases_loop
+row_fits : tie.Need-bounds-out-row_of invariant_loop decreases_loop
 row_fits c =
-    scattered_fits (row_to_start c).requires (omega arith) c.row_of.ensures (row_to_loop c).loop.invariant.2
+    scattered_fits c.requires (omega arith) c.row_of.ensures c.loop-p.invariant.2
 
 -- what the row gets
-amount_is : (c : tie.After-row-of invariant_loop decreases_loop)
-    → c.before.firm.result
-    ≡ firm_amount (row_to_start c).args.section.now (row_to_start c).args.keys.now (row_to_start c).args.left
-    (row_to_loop c).loop.p
+amount_is : (c : tie.After-row_of invariant_loop decreases_loop)
+    → c.firm.result
+    ≡ firm_amount c.args.section.now c.args.keys.now c.args.left
+    c.loop-p.p
 amount_is c =
-    c.before.firm.ensures
-    ∙ ap (λ (t : Bool). pick (t || ltb 0 (row_to_loop c).loop.tally.left) (row_to_quantity c).quantity-of.result)
-    c.before.before.fixed.ensures
-    ∙ ap₂ (λ (y z : ℕ). pick (is_fixed (at (row_to_start c).args.keys.now (row_to_loop c).loop.p) || ltb 0 y) z)
-    (row_to_loop c).loop.invariant.1 (row_to_quantity c).quantity-of.ensures
+    c.firm.ensures
+    ∙ ap (λ (t : Bool). pick (t || ltb 0 c.loop-p.tally.left) c.quantity_of-q.result)
+    c.fixed.ensures
+    ∙ ap₂ (λ (y z : ℕ). pick (is_fixed (at c.args.keys.now c.loop-p.p) || ltb 0 y) z)
+    c.loop-p.invariant.1 c.quantity_of-q.ensures
 
-loop_holds : tie.Need-loop-init invariant_loop decreases_loop
+loop_holds : tie.Need-loop-p-init invariant_loop decreases_loop
 loop_holds c =
-    let a = c.before.before.before.args in (
+    let a = c.args in (
       omega arith,
       omega (arith, sum_none (λ u. quantity_of a.section.now (at a.keys.now u))),
       scattered_none,
     )
 
-loop_again : tie.Need-loop-preserved invariant_loop decreases_loop
-loop_again c =
-    let row = c.before in
-    let at_loop = row_to_loop row in
-    let start = row_to_start row in (
-      omega arith,
-      omega (
-        arith,
-        c.take.ensures,
-        (row_to_quantity row).quantity-of.ensures,
-        at_loop.loop.inv.1,
-        sum_step at_loop.loop.p (λ u. quantity_of start.args.section.now (at start.args.keys.now u)),
-      ),
-      scattered_more start.pre (omega arith) row.row_of.ensures (amount_is row) at_loop.loop.inv.2,
-    )
+loop_again : tie.Need-loop-p-preserved invariant_loop decreases_loop
+loop_again c = (
+  omega arith,
+  omega (
+    arith,
+    c.take-tally.ensures,
+    c.quantity_of-q.ensures,
+    c.loop-p.invariant.1,
+    sum_step c.loop-p.p (λ u. quantity_of c.args.section.now (at c.args.keys.now u)),
+  ),
+  scattered_more c.requires (omega arith) c.row_of.ensures (amount_is c.before) c.loop-p.invariant.2,
+)
 
 returns : tie.Need-returns invariant_loop decreases_loop
 returns c =
-    let e : c.before.loop.p ≡ length c.before.before.before.before.before.args.keys.now = omega arith in
-    rw e at c.before.loop.invariant.2
+    let e : c.loop-p.p ≡ length c.args.keys.now = omega arith in
+    rw e at c.loop-p.invariant.2
 
 pub serve_firm_spec : {M : Type 1} → statement M
 serve_firm_spec =
     tie.close
-    (tie.spec invariant_loop decreases_loop loop_holds (λ c. omega arith) (λ c. omega arith) (λ c κs. search rules) (λ c κs. search rules)
-    (λ c κs. search rules) (λ c κs. search rules) (λ c. omega (arith, row_fits c)) row_fits (λ c κs. search rules)
-    (λ c. omega arith) (λ c. omega arith) loop_again (λ c. c.before.loop.invariant.2.long) returns)
+    (tie.spec invariant_loop decreases_loop loop_holds (λ c. omega arith) (λ c. omega arith) (λ c κs. search rules)
+    (λ c κs. search rules) (λ c κs. search rules) (λ c κs. search rules) (λ c. omega (arith, row_fits c)) row_fits
+    (λ c κs. search rules) (λ c. omega arith) (λ c. omega arith) loop_again (λ c. c.loop-p.invariant.2.long) returns)
