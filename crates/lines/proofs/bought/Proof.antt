@@ -3,25 +3,21 @@ use mathlib.Core.Path.{◌∙◌, sym}
 use Rattle.lines.proofs.bought.Statement.{statement}
 use Rattle.lines.proofs.bought.Tie as tie
 
--- ways back: X-to-Y leads from the place X of the code to the earlier place Y
-abbrev wide3_to_else1 : tie.After-wide3 → tie.Else1
-wide3_to_else1 c = c.before.before.before
-
-returns : tie.Need-returns
+returns : tie.Need-returns-then-carries_losses
 returns c =
     simp (
-      sym c.before.before.before.carries-losses.ensures ∙ c.before.before.if1.true,
+      sym c.carries_losses.ensures ∙ c.if-carries_losses.true,
       c.wide.ensures,
-      c.before.less.ensures,
+      c.less.ensures,
     )
 
-returns_2 : tie.Need-returns-2
+returns_2 : tie.Need-returns-else-carries_losses
 returns_2 c =
     simp (
-      sym (wide3_to_else1 c).before.carries-losses.ensures ∙ (wide3_to_else1 c).if1.false,
-      c.wide3.ensures,
-      c.before.wide2.ensures,
-      c.before.before.less2.ensures,
+      sym c.carries_losses.ensures ∙ c.if-carries_losses.false,
+      c.wide-else-carries_losses-2.ensures,
+      c.wide-else-carries_losses.ensures,
+      c.less-else-carries_losses.ensures,
     )
 
 pub bought_spec : {M : Type 1} → statement M

@@ -12,28 +12,28 @@ use Rattle.hour.proofs.Money.{diff_fits, money_fits}
 use Rattle.lines.proofs.owed.Statement.{statement}
 use Rattle.lines.proofs.owed.Tie as tie
 
-sub_result : tie.Need-overflow-sub-result
+sub_result : tie.Need-overflow_sub-result
 sub_result c =
-    let a = c.before.args in
+    let a = c.args in
     simp (to_z_pos w64 a.sold (omega arith), to_z_pos w64 a.bought (omega arith))
     (diff_fits a.sold a.bought (omega arith) (omega arith))
 
 -- what the code works out is the money of the paper
-is : (c : tie.After-least)
-    → to_z w64 (of_z w64 (to_z w64 c.before.args.sold -ℤ to_z w64 c.before.args.bought))
-    *ℤ to_z w64 c.least.result
-    ≡ money_of c.before.args.sold c.before.args.bought (min c.before.args.price most_offer)
+is : (c : tie.After-least-centavos)
+    → to_z w64 (of_z w64 (to_z w64 c.args.sold -ℤ to_z w64 c.args.bought))
+    *ℤ to_z w64 c.least-centavos.result
+    ≡ money_of c.args.sold c.args.bought (min c.args.price most_offer)
 unfolding money_of
 is c =
-    let a = c.before.args in
+    let a = c.args in
     ap₂ ◌*ℤ◌
     (to_z-of_z w64 _ (sub_result c)
     ∙ ap₂ ◌-ℤ◌ (to_z_pos w64 a.sold (omega arith)) (to_z_pos w64 a.bought (omega arith)))
-    (to_z_pos w64 c.least.result (omega arith) ∙ ap pos c.least.ensures)
+    (to_z_pos w64 c.least-centavos.result (omega arith) ∙ ap pos c.least-centavos.ensures)
 
-mul_result : tie.Need-overflow-mul-result
+mul_result : tie.Need-overflow_mul-result
 mul_result c =
-    let a = c.before.args in
+    let a = c.args in
     rw (is c) (money_fits a.sold a.bought (min a.price most_offer) (omega arith) (omega arith) (omega arith))
 
 returns : tie.Need-returns

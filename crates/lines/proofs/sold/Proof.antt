@@ -3,11 +3,11 @@ use mathlib.Core.Path.{◌∙◌, sym}
 use Rattle.lines.proofs.sold.Statement.{statement}
 use Rattle.lines.proofs.sold.Tie as tie
 
-returns : tie.Need-returns
-returns c = simp (sym c.before.before.carries-losses.ensures ∙ c.before.if1.true, c.less.ensures)
+returns : tie.Need-returns-then-carries_losses
+returns c = simp (sym c.carries_losses.ensures ∙ c.if-carries_losses.true, c.less.ensures)
 
-returns_2 : tie.Need-returns-2
-returns_2 c = simp (sym c.before.before.carries-losses.ensures ∙ c.before.if1.false, c.less2.ensures)
+returns_2 : tie.Need-returns-else-carries_losses
+returns_2 c = simp (sym c.carries_losses.ensures ∙ c.if-carries_losses.false, c.less-else-carries_losses.ensures)
 
 pub sold_spec : {M : Type 1} → statement M
 sold_spec =

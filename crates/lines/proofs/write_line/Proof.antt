@@ -13,8 +13,7 @@ pub write_line_spec : {M : Type 1} → statement M
 write_line_spec =
     tie.close
     (tie.spec (λ c. search rules) (λ c. search rules) (λ c. search rules) (λ c. search rules)
-    (λ c. simp length-set (omega arith)) (λ c. search rules) (λ c. search rules)
-    (λ c. simp length-set (omega arith)) (λ c. search rules) (λ c. search rules)
-    (λ c. simp length-set (omega arith)) (λ c. search rules) (λ c. search rules)
-    (λ c. simp length-set (omega arith)) (λ c. search rules) (λ c. search rules)
-    (λ c. simp length-set (omega arith)) (λ c. search rules) returns)
+    (λ c. simp length-set (omega arith)) (λ c. search rules) (λ c. search rules) (λ c. simp length-set (omega arith))
+    (λ c. search rules) (λ c. search rules) (λ c. simp length-set (omega arith)) (λ c. search rules) (λ c. search rules)
+    (λ c. simp length-set (omega arith)) (λ c. search rules) (λ c. search rules) (λ c. simp length-set (omega arith))
+    (λ c. search rules) returns)
