@@ -6,4 +6,4 @@ use Rattle.balance.proofs.first_if.Tie as tie
 
 pub first_if_spec : {M : Type 1} → statement M
 first_if_spec =
-    tie.close (tie.spec (λ c κs. search rules) (λ c. search rules) (λ c. sym (first_none _ _ (c.before.before.requires.2 c.if1.false))))
+    tie.close (tie.spec (λ c κs. search rules) (λ c. search rules) (λ c. sym (first_none _ _ (c.requires.2 c.if-any.false))))

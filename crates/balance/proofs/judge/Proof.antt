@@ -27,29 +27,29 @@ module _ (n o e l u : ℕ) where
       by_fine : (eqb (e - l) 0 || ltb 0 u) ≡ true → weighed_by n o e l u ≡ Verdict.Fine
       by_fine t = simp (le-leb _ _ h, le-leb _ _ k, t)
 
-returns : tie.Need-returns
+returns : tie.Need-returns-then-over-n
 returns c =
-    let a = c.before.before.args in
+    let a = c.args in
     c.refuse.ensures ∙ sym (by_7 a.n a.over a.entering a.leaving a.consumed (omega arith))
 
-returns_2 : tie.Need-returns-2
+returns_2 : tie.Need-returns-then-entering-leaving
 returns_2 c =
-    let a = c.before.before.before.args in
-    c.refuse2.ensures
+    let a = c.args in
+    c.refuse-then-entering-leaving.ensures
     ∙ sym (by_8 a.n a.over a.entering a.leaving a.consumed (omega arith) (omega arith))
 
-returns_3 : tie.Need-returns-3
+returns_3 : tie.Need-returns-then-carried
 returns_3 c =
-    let a = c.before.before.before.before.args in
+    let a = c.args in
     sym (by_fine a.n a.over a.entering a.leaving a.consumed (omega arith) (omega arith)
-    (sym c.before.carried.ensures ∙ c.if3.true))
+    (sym c.carried.ensures ∙ c.if-carried.true))
 
-returns_4 : tie.Need-returns-4
+returns_4 : tie.Need-returns
 returns_4 c =
-    let a = c.before.before.before.before.before.args in
-    c.refuse3.ensures
+    let a = c.args in
+    c.refuse-2.ensures
     ∙ sym (by_9 a.n a.over a.entering a.leaving a.consumed (omega arith) (omega arith)
-    (sym c.before.before.carried.ensures ∙ c.before.if3.false))
+    (sym c.carried.ensures ∙ c.if-carried.false))
 
 pub judge_spec : {M : Type 1} → statement M
 judge_spec =

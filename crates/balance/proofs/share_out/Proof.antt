@@ -5,7 +5,7 @@ use lib.Seq.{length-take-le}
 use Rattle.balance.proofs.share_out.Statement.{statement}
 use Rattle.balance.proofs.share_out.Tie as tie
 
-slice_aggregate_share : tie.Need-slice-aggregate-share
+slice_aggregate_share : tie.Need-slice_bounds-share-end
 slice_aggregate_share c = sym (length-take-le _ _ (omega arith))
 
 pub share_out_spec : {M : Type 1} → statement M

@@ -31,28 +31,6 @@ use Rattle.balance.proofs.ByAgent.{demand_is, injected_is, small_is, target_is}
 use Rattle.balance.proofs.weigh_read.Statement.{statement}
 use Rattle.balance.proofs.weigh_read.Tie as tie
 
--- ways back: X-to-Y leads from the place X of the code to the earlier place Y
-abbrev read_to_start : tie.After-read-columns → tie.Start
-read_to_start c = c.before.before.before.before.before.before
-
-abbrev judge_to_read : tie.After-judge → tie.After-read-columns
-judge_to_read c = c.before.before
-
-abbrev told_to_read : tie.After-enum-told → tie.After-read-columns
-told_to_read c = judge_to_read c.before.before
-
-abbrev share_to_told : tie.After-share-out → tie.After-enum-told
-share_to_told c = c.before.before.before.before.before
-
-abbrev add_to_share : tie.After-add-shares → tie.After-share-out
-add_to_share c = c.before.before.before.before.before
-
-abbrev told_to_start : tie.After-enum-told → tie.Start
-told_to_start c = read_to_start (told_to_read c)
-
-abbrev share_to_start : tie.After-share-out → tie.Start
-share_to_start c = told_to_start (share_to_told c)
-
 abbrev sheet : tie.Start → Sheet
 sheet c = columns_of c.args.s.now c.args.c
 
@@ -66,184 +44,167 @@ count : (c : tie.Start) → agents (sheet c) ≡ c.args.c.agents
 count c = agents_long _ _
 
 -- ---- the sums, and the verdict by them
-left : (c : tie.After-read-columns)
-    → c.read-columns.result.consumed + c.read-columns.result.drawn ≡ leaving (sheet (read_to_start c))
+left : (c : tie.After-read_columns-m)
+    → c.read_columns-m.result.consumed + c.read_columns-m.result.drawn ≡ leaving (sheet c.before.before.before.before.before.before)
 left c =
-    let r = c.read-columns.ensures in
-    ap₂ ◌+◌ r.consumed r.drawn ∙ leaving_is _ _ (count (read_to_start c))
+    let r = c.read_columns-m.ensures in
+    ap₂ ◌+◌ r.consumed r.drawn ∙ leaving_is _ _ (count c.before.before.before.before.before.before)
 
-add_leaving : tie.Need-overflow-add-leaving
-add_leaving c = omega (arith, left c.before, leaving_le _ (ok (read_to_start c.before)))
+add_leaving : tie.Need-overflow_add-leaving
+add_leaving c = omega (arith, left c.before, leaving_le _ (ok c.before.before.before.before.before.before.before))
 
-judge_requires : tie.Need-judge-requires
-judge_requires c κs = few (read_to_start c.before)
+judge_requires : tie.Need-judge-verdict-requires
+judge_requires c κs = few c.before.before.before.before.before.before.before
 
-verdict : (c : tie.After-judge) → c.judge.result ≡ balance_verdict (sheet (read_to_start (judge_to_read c)))
+verdict : (c : tie.After-judge-verdict) → c.judge-verdict.result ≡ balance_verdict (sheet c.before.before.before.before.before.before.before.before)
 verdict c =
-    let r = judge_to_read c in
-    let e = r.read-columns.ensures in
-    c.judge.ensures
-    ∙ verdict_is _ _ (count (read_to_start r)) _ _ _ _ e.over e.entering (left r) e.consumed
+    let e = c.read_columns-m.ensures in
+    c.judge-verdict.ensures
+    ∙ verdict_is _ _ (count c.before.before.before.before.before.before.before.before) _ _ _ _ e.over e.entering (left c.before.before) e.consumed
 
 -- a refusal: the numbers are 0, and of the columns nothing is said
-returns : tie.Need-returns
+returns : tie.Need-returns-in_default
 returns c =
-    let v = sym (verdict c.before.before) ∙ c.enum-told2.given.1 in
+    let v = sym (verdict c.before) ∙ c.in_default.is in
     record {
-      answer = verdict c.before.before;
+      answer = verdict c.before;
       losses = rw v;
       demand = rw v;
       target = rw v;
       columns = λ e. not_fine _ (sym v ∙ e);
     }
 
-fine : (c : tie.After-enum-told) → balance_verdict (sheet (told_to_start c)) ≡ Verdict.Fine
-fine c = sym (verdict c.before.before) ∙ c.enum_told.given.1
+fine : (c : tie.In-Fine) → balance_verdict (sheet c.before.before.before.before.before.before.before.before.before) ≡ Verdict.Fine
+fine c = sym (verdict c.before) ∙ c.in-Fine.is
 
-weighed : (c : tie.After-enum-told) → Balanced (sheet (told_to_start c))
+weighed : (c : tie.In-Fine) → Balanced (sheet c.before.before.before.before.before.before.before.before.before)
 weighed c = balanced _ (fine c)
 
 -- ---- losses and their shares
-sub_losses : tie.Need-overflow-sub-losses
+sub_losses : tie.Need-overflow_sub-losses
 sub_losses c =
-    let t = c.before in
-    let r = told_to_read t in omega (arith, r.read-columns.ensures.entering, left r, (weighed t).gain)
+    omega (arith, c.read_columns-m.ensures.entering, left c.before.before.before.before, (weighed c.before).gain)
 
-lost : (c : tie.After-read-columns)
-    → c.read-columns.result.entering - (c.read-columns.result.consumed + c.read-columns.result.drawn)
-    ≡ losses (sheet (read_to_start c))
+lost : (c : tie.After-read_columns-m)
+    → c.read_columns-m.result.entering - (c.read_columns-m.result.consumed + c.read_columns-m.result.drawn)
+    ≡ losses (sheet c.before.before.before.before.before.before)
 unfolding losses
-lost c = ap₂ ◌-◌ c.read-columns.ensures.entering (left c)
+lost c = ap₂ ◌-◌ c.read_columns-m.ensures.entering (left c)
 
-share_out_requires : tie.Need-share-out-requires
-share_out_requires c κs = omega (arith, few (told_to_start c.before.before.before.before))
+share_out_requires : tie.Need-share_out-requires
+share_out_requires c κs = omega (arith, few c.before.before.before.before.before.before.before.before.before.before.before.before.before)
 
-shared : (c : tie.After-share-out)
-    → Filled 0 (share_to_start c).args.shares.now c.share-out.new.1.1.1.0 (share_to_start c).args.c.agents
-    (loss_share (sheet (share_to_start c)))
+shared : (c : tie.After-share_out)
+    → Filled 0 c.args.shares.now c.share_out.new.out c.args.c.agents
+    (loss_share (sheet c.before.before.before.before.before.before.before.before.before.before.before.before.before.before))
 shared c =
-    let s = share_to_start c in
-    let r = told_to_read (share_to_told c) in
-    let cells : length s.args.shares.now ≡ most_agents = omega arith in
-    let long : length s.args.commercial.now ≡ most_agents = omega (arith, r.read-columns.ensures.used.long) in
-    let room : s.args.c.agents ≤ length s.args.commercial.now = omega (arith, few s) in
-    shares_are _ _ (count s) _ _ _ _ _ (lost r)
-    (weights_are _ _ (count s) _ _ room r.read-columns.ensures.used) (few s) cells c.share-out.ensures
+    let cells : length c.args.shares.now ≡ most_agents = omega arith in
+    let long : length c.args.commercial.now ≡ most_agents = omega (arith, c.read_columns-m.ensures.used.long) in
+    let room : c.args.c.agents ≤ length c.args.commercial.now = omega (arith, few c.before.before.before.before.before.before.before.before.before.before.before.before.before.before) in
+    shares_are _ _ (count c.before.before.before.before.before.before.before.before.before.before.before.before.before.before) _ _ _ _ _ (lost c.before.before.before.before.before.before.before.before)
+    (weights_are _ _ (count c.before.before.before.before.before.before.before.before.before.before.before.before.before.before) _ _ room c.read_columns-m.ensures.used) (few c.before.before.before.before.before.before.before.before.before.before.before.before.before.before) cells c.share_out.ensures
 
 -- ---- commercial demand, what small generators deliver, and their sums
-abbrev uses : tie.After-share-out → List ℕ
-uses c = (told_to_read (share_to_told c)).read-columns.new.1.1.1.1.1.0
+abbrev uses : tie.After-share_out → List ℕ
+uses c = c.read_columns-m.new.used
 
-abbrev gives : tie.After-share-out → List ℕ
-gives c = (told_to_read (share_to_told c)).read-columns.new.1.1.1.1.0
+abbrev gives : tie.After-share_out → List ℕ
+gives c = c.read_columns-m.new.given
 
-abbrev kinds : tie.After-share-out → List ℕ
-kinds c = (told_to_read (share_to_told c)).read-columns.new.1.1.0
+abbrev kinds : tie.After-share_out → List ℕ
+kinds c = c.read_columns-m.new.kinds
 
-abbrev shares : tie.After-share-out → List ℕ
-shares c = c.share-out.new.1.1.1.0
+abbrev shares : tie.After-share_out → List ℕ
+shares c = c.share_out.new.out
 
-demands : (c : tie.After-share-out) (a : ℕ)
-    → a < (share_to_start c).args.c.agents
-    → with_share (uses c) (shares c) a ≡ commercial (sheet (share_to_start c)) a
+demands : (c : tie.After-share_out) (a : ℕ)
+    → a < c.args.c.agents
+    → with_share (uses c) (shares c) a ≡ commercial (sheet c.before.before.before.before.before.before.before.before.before.before.before.before.before.before) a
 unfolding commercial
-demands c a l = ap₂ ◌+◌ ((told_to_read (share_to_told c)).read-columns.ensures.used.done a l) ((shared c).done a l)
+demands c a l = ap₂ ◌+◌ (c.read_columns-m.ensures.used.done a l) ((shared c).done a l)
 
-injects : (c : tie.After-share-out) (a : ℕ)
-    → a < (share_to_start c).args.c.agents
-    → of_small (kinds c) (gives c) a ≡ injected (sheet (share_to_start c)) a
+injects : (c : tie.After-share_out) (a : ℕ)
+    → a < c.args.c.agents
+    → of_small (kinds c) (gives c) a ≡ injected (sheet c.before.before.before.before.before.before.before.before.before.before.before.before.before.before) a
 injects c a l =
-    let r = (told_to_read (share_to_told c)).read-columns.ensures in injected_is _ a _ _ (r.kinds.done a l) (r.given.done a l)
+    let r = c.read_columns-m.ensures in injected_is _ a _ _ (r.kinds.done a l) (r.given.done a l)
 
-all : (c : tie.After-share-out)
-    → sum (share_to_start c).args.c.agents (with_share (uses c) (shares c))
-    + (told_to_read (share_to_told c)).read-columns.result.drawn
-    ≡ hour_demand (sheet (share_to_start c))
+all : (c : tie.After-share_out)
+    → sum c.args.c.agents (with_share (uses c) (shares c))
+    + c.read_columns-m.result.drawn
+    ≡ hour_demand (sheet c.before.before.before.before.before.before.before.before.before.before.before.before.before.before)
 all c =
-    ap₂ ◌+◌ (sum_eq _ _ _ (demands c)) (told_to_read (share_to_told c)).read-columns.ensures.drawn
-    ∙ demand_is _ _ (count (share_to_start c))
+    ap₂ ◌+◌ (sum_eq _ _ _ (demands c)) c.read_columns-m.ensures.drawn
+    ∙ demand_is _ _ (count c.before.before.before.before.before.before.before.before.before.before.before.before.before.before)
 
-small : (c : tie.After-share-out)
-    → sum (share_to_start c).args.c.agents (of_small (kinds c) (gives c)) ≡ sum (share_to_start c).args.c.agents
-    (injected (sheet (share_to_start c)))
+small : (c : tie.After-share_out)
+    → sum c.args.c.agents (of_small (kinds c) (gives c)) ≡ sum c.args.c.agents
+    (injected (sheet c.before.before.before.before.before.before.before.before.before.before.before.before.before.before))
 small c = sum_eq _ _ _ (injects c)
 
-within : (c : tie.After-share-out)
-    → sum (share_to_start c).args.c.agents (of_small (kinds c) (gives c)) ≤ hour_demand (sheet (share_to_start c))
+within : (c : tie.After-share_out)
+    → sum c.args.c.agents (of_small (kinds c) (gives c)) ≤ hour_demand (sheet c.before.before.before.before.before.before.before.before.before.before.before.before.before.before)
 within c =
-    let s = share_to_start c in
-    omega (arith, small c, small_is (sheet s) _ (count s) (ok s), small_within _ (ok s) (weighed (share_to_told c)))
+    omega (arith, small c, small_is (sheet c.before.before.before.before.before.before.before.before.before.before.before.before.before.before) _ (count c.before.before.before.before.before.before.before.before.before.before.before.before.before.before) (ok c.before.before.before.before.before.before.before.before.before.before.before.before.before.before), small_within _ (ok c.before.before.before.before.before.before.before.before.before.before.before.before.before.before) (weighed c.before.before.before.before.before))
 
-most : (c : tie.After-share-out) → hour_demand (sheet (share_to_start c)) ≤ 4294967295
-most c = omega (arith, demand_most _ (ok (share_to_start c)) (weighed (share_to_told c)))
+most : (c : tie.After-share_out) → hour_demand (sheet c.before.before.before.before.before.before.before.before.before.before.before.before.before.before) ≤ 4294967295
+most c = omega (arith, demand_most _ (ok c.before.before.before.before.before.before.before.before.before.before.before.before.before.before) (weighed c.before.before.before.before.before))
 
-add_shares_requires : tie.Need-add-shares-requires
+add_shares_requires : tie.Need-add_shares-d-requires
 add_shares_requires c κs =
-    let sh = c.before.before.before.before in
-    let t = share_to_told sh in
-    let s = share_to_start sh in
-    let r = (told_to_read t).read-columns.ensures in
-    let demanded : length s.args.commercial.now ≡ most_agents = omega arith in
-    let given : length s.args.own.now ≡ most_agents = omega arith in (
-      few s,
-      omega (arith, few s, demanded, r.used.long),
-      omega (arith, few s, given, r.given.long),
+    let r = c.read_columns-m.ensures in
+    let demanded : length c.args.commercial.now ≡ most_agents = omega arith in
+    let given : length c.args.own.now ≡ most_agents = omega arith in (
+      few c.before.before.before.before.before.before.before.before.before.before.before.before.before.before.before.before,
+      omega (arith, few c.before.before.before.before.before.before.before.before.before.before.before.before.before.before.before.before, demanded, r.used.long),
+      omega (arith, few c.before.before.before.before.before.before.before.before.before.before.before.before.before.before.before.before, given, r.given.long),
       record {
         each =
             λ a l.
-            let m : a < agents (sheet s) = omega (arith, count s) in
+            let m : a < agents (sheet c.before.before.before.before.before.before.before.before.before.before.before.before.before.before.before.before) = omega (arith, count c.before.before.before.before.before.before.before.before.before.before.before.before.before.before.before.before) in
             omega (
               arith,
-              demands sh a l,
-              injects sh a l,
-              commercial_most _ (ok s) (weighed t) a m,
-              injected_le (sheet s) a,
-              exported_le _ (ok s) a,
+              demands c.before.before a l,
+              injects c.before.before a l,
+              commercial_most _ (ok c.before.before.before.before.before.before.before.before.before.before.before.before.before.before.before.before) (weighed c.before.before.before.before.before.before.before) a m,
+              injected_le (sheet c.before.before.before.before.before.before.before.before.before.before.before.before.before.before.before.before) a,
+              exported_le _ (ok c.before.before.before.before.before.before.before.before.before.before.before.before.before.before.before.before) a,
             );
-        all = omega (arith, all sh, most sh);
-        small = omega (arith, within sh, most sh);
+        all = omega (arith, all c.before.before, most c.before.before);
+        small = omega (arith, within c.before.before, most c.before.before);
       },
     )
 
-add_demand : tie.Need-overflow-add-demand
+add_demand : tie.Need-overflow_add-demand
 add_demand c =
-    let added = c.before.before in
-    let sh = add_to_share added in omega (arith, added.add-shares.ensures.all, all sh, most sh)
+    omega (arith, c.add_shares-d.ensures.all, all c.before.before.before.before.before, most c.before.before.before.before.before)
 
-sub_target : tie.Need-overflow-sub-t30
+sub_target : tie.Need-overflow_sub-result
 sub_target c =
-    let added = c.before.before.before in
-    let sh = add_to_share added in
-    omega (arith, added.add-shares.ensures.all, added.add-shares.ensures.small, all sh, within sh)
+    omega (arith, c.add_shares-d.ensures.all, c.add_shares-d.ensures.small, all c.before.before.before.before.before.before, within c.before.before.before.before.before.before)
 
-returns_2 : tie.Need-returns-2
+returns_2 : tie.Need-returns
 returns_2 c =
-    let at_Added = c.before.before.before in
-    let at_shared = at_Added.before.before.before.before.before in
-    let at_told = at_shared.before.before.before.before.before in
-    let at_judge = at_told.before.before in
-    let at_read = at_judge.before.before in
-    let at_start = at_read.before.before.before.before.before.before in
-    let every : (k : ℕ) → k ≡ cells (balance_verdict (sheet at_start)) k = λ k. rw (fine at_told) in
-    let n = sym (count at_start) in
-    let r = at_read.read-columns.ensures in
-    let added = at_Added.add-shares.ensures in
-    let demand = ap (λ (x : ℕ). x + at_read.read-columns.result.drawn) added.all ∙ all at_shared in
+    let every : (k : ℕ) → k ≡ cells (balance_verdict (sheet c.before.before.before.before.before.before.before.before.before.before.before.before.before.before.before.before.before.before.before.before)) k = λ k. rw (fine c.before.before.before.before.before.before.before.before.before.before.before) in
+    let n = sym (count c.before.before.before.before.before.before.before.before.before.before.before.before.before.before.before.before.before.before.before.before) in
+    let r = c.read_columns-m.ensures in
+    let added = c.add_shares-d.ensures in
+    let demand = ap (λ (x : ℕ). x + c.read_columns-m.result.drawn) added.all ∙ all c.before.before.before.before.before.before in
     record {
-      answer = verdict at_judge;
-      losses = lost at_read ∙ every _;
+      answer = verdict c.before.before.before.before.before.before.before.before.before.before.before.before;
+      losses = lost c.before.before.before.before.before.before.before.before.before.before.before.before.before.before ∙ every _;
       demand = demand ∙ every _;
-      target = target_is _ _ (count at_start) _ _ (ok at_start) demand (added.small ∙ small at_shared) ∙ every _;
+      target = target_is _ _ (count c.before.before.before.before.before.before.before.before.before.before.before.before.before.before.before.before.before.before.before.before) _ _ (ok c.before.before.before.before.before.before.before.before.before.before.before.before.before.before.before.before.before.before.before.before) demand (added.small ∙ small c.before.before.before.before.before.before) ∙ every _;
       columns =
           λ e. record {
             kinds = filled_count 0 _ _ _ _ _ n r.kinds;
-            shares = filled_count 0 _ _ _ _ _ n (shared at_shared);
+            shares = filled_count 0 _ _ _ _ _ n (shared c.before.before.before.before.before.before);
             commercial =
                 filled_count 0 _ _ _ _ _ n
-                (filled_by 0 _ _ _ _ _ (demands at_shared) (filled_then 0 _ _ _ _ _ _ r.used added.commercial));
+                (filled_by 0 _ _ _ _ _ (demands c.before.before.before.before.before.before) (filled_then 0 _ _ _ _ _ _ r.used added.commercial));
             own =
                 filled_count 0 _ _ _ _ _ n
-                (filled_by 0 _ _ _ _ _ (λ a l. ap₂ ◌+◌ (demands at_shared a l) (injects at_shared a l))
+                (filled_by 0 _ _ _ _ _ (λ a l. ap₂ ◌+◌ (demands c.before.before.before.before.before.before a l) (injects c.before.before.before.before.before.before a l))
                 (filled_then 0 _ _ _ _ _ _ r.given added.own));
             imports = filled_count 0 _ _ _ _ _ n r.taken;
           };
@@ -252,5 +213,5 @@ returns_2 c =
 pub weigh_read_spec : {M : Type 1} → statement M
 weigh_read_spec =
     tie.close
-    (tie.spec (λ c κs. c.before.before.before.before.before.requires) add_leaving judge_requires (λ c. search rules)
-    (λ c. search rules) returns sub_losses share_out_requires add_shares_requires add_demand sub_target returns_2)
+    (tie.spec (λ c κs. c.requires) add_leaving judge_requires (λ c. search rules) (λ c. search rules) returns sub_losses
+    share_out_requires add_shares_requires add_demand sub_target returns_2)

@@ -9,25 +9,23 @@ use Rattle.balance.proofs.whole_of.Statement.{statement}
 use Rattle.balance.proofs.whole_of.Tie as tie
 
 -- a retailer
-returns : tie.Need-returns
+returns : tie.Need-returns-then-carries_losses
 returns c =
-    let branch = c.before.before in
-    let e : carries_losses branch.before.before.args.kind ≡ true =
-    sym branch.before.carries-losses.ensures ∙ branch.if1.true in (
-      sym (pick_false (not (carries_losses branch.before.before.args.kind)) _ (ap not e)),
-      sym (pick_false (not (carries_losses branch.before.before.args.kind)) _ (ap not e)),
-      c.to_whole.ensures ∙ ap rounded c.before.less.ensures ∙ sym (pick_true _ _ e),
+    let e : carries_losses c.args.kind ≡ true =
+    sym c.carries_losses.ensures ∙ c.if-carries_losses.true in (
+      sym (pick_false (not (carries_losses c.args.kind)) _ (ap not e)),
+      sym (pick_false (not (carries_losses c.args.kind)) _ (ap not e)),
+      c.to_whole.ensures ∙ ap rounded c.less.ensures ∙ sym (pick_true _ _ e),
       rw e,
     )
 
 -- a generator
-returns_2 : tie.Need-returns-2
+returns_2 : tie.Need-returns
 returns_2 c =
-    let branch = c.before.before in
-    let e : carries_losses branch.before.before.args.kind ≡ false =
-    sym branch.before.carries-losses.ensures ∙ branch.if1.false in (
-      c.before.to-whole2.ensures ∙ sym (pick_true (not (carries_losses branch.before.before.args.kind)) _ (ap not e)),
-      c.to-whole3.ensures ∙ sym (pick_true (not (carries_losses branch.before.before.args.kind)) _ (ap not e)),
+    let e : carries_losses c.args.kind ≡ false =
+    sym c.carries_losses.ensures ∙ c.if-carries_losses.false in (
+      c.to_whole-2.ensures ∙ sym (pick_true (not (carries_losses c.args.kind)) _ (ap not e)),
+      c.to_whole-3.ensures ∙ sym (pick_true (not (carries_losses c.args.kind)) _ (ap not e)),
       sym (pick_false _ _ e),
       rw e,
     )
@@ -35,5 +33,5 @@ returns_2 c =
 pub whole_of_spec : {M : Type 1} → statement M
 whole_of_spec =
     tie.close
-    (tie.spec (λ c κs. search rules) (λ c κs. search rules) (λ c κs. omega (arith, c.less.ensures)) returns (λ c κs. search rules)
-    (λ c κs. search rules) returns_2)
+    (tie.spec (λ c κs. search rules) (λ c κs. search rules) (λ c κs. omega (arith, c.less.ensures)) returns
+    (λ c κs. search rules) (λ c κs. search rules) returns_2)

@@ -5,22 +5,19 @@ use borrow.Author.Rules.{rules}
 use Rattle.mend.proofs.mend.Statement.{statement}
 use Rattle.mend.proofs.mend.Tie as tie
 
-mend_counted_requires : tie.Need-mend-counted-requires
+mend_counted_requires : tie.Need-mend_counted-requires
 mend_counted_requires c κs =
-    let at_rows = c.before.before.before in
     counted_mendable _ _ (rows_counted _ _
-    (sym at_rows.before.before.count-rows.ensures ∙ at_rows.rows.given.1)).1
+    (sym c.count_rows-rows.ensures ∙ c.in-Rows.is)).1
 
-returns : tie.Need-returns
+returns : tie.Need-returns-in-Rows
 returns c =
-    let at_mend = c.before.before.before.before in
-    let at_rows = at_mend.before.before.before.before in
-    rw (rows_verdict_lem _ _ _ _ (sym at_rows.before.before.count-rows.ensures ∙ at_rows.rows.given.1))
-    at_mend.mend-counted.ensures
+    rw (rows_verdict_lem _ _ _ _ (sym c.count_rows-rows.ensures ∙ c.in-Rows.is))
+    c.mend_counted.ensures
 
-returns_2 : tie.Need-returns-2
+returns_2 : tie.Need-returns-in-Refused
 returns_2 c =
-    let told = sym c.before.before.before.count-rows.ensures ∙ c.before.rows2.given.1 in
+    let told = sym c.count_rows-rows.ensures ∙ c.in-Refused.is in
     refused_kept _ _ _ _ _ (refused_verdict _ _ _ _ told)
 
 pub mend_spec : {M : Type 1} → statement M

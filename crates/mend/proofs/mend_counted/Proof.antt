@@ -13,37 +13,32 @@ use borrow.Author.Rules.{rules}
 use Rattle.mend.proofs.mend_counted.Statement.{statement}
 use Rattle.mend.proofs.mend_counted.Tie as tie
 
-mul_if1 : tie.Need-overflow-mul-if1
+mul_if1 : tie.Need-overflow_mul-n
 mul_if1 c =
-    let start = c.before.before.before.before in
-    omega (arith, c.count-changes.ensures, count_few (changed start.args.s.now) (length start.args.s.now))
+    omega (arith, c.count_changes-n.ensures, count_few (changed c.args.s.now) (length c.args.s.now))
 
 -- there is room
-roomy : (c : tie.Then1)
+roomy : (c : tie.Then-s-copy)
     → let args =
-    c.before.before.before.before.before.args in room args.s.now args.copy.now args.report.now ≡ true
-roomy c = rw c.before.count-changes.ensures at c.if1.true
+    c.args in room args.s.now args.copy.now args.report.now ≡ true
+roomy c = rw c.count_changes-n.ensures at c.if-s-copy.true
 
-write_mended_requires : tie.Need-write-mended-requires
+write_mended_requires : tie.Need-write_mended-requires
 write_mended_requires c κs =
-    let start = c.before.before.before.before.before.before.before in
-    let s = start.args.s.now in
-    let copy = leb (length s) (length start.args.copy.now) in
-    let report = leb (3 * changes s) (length start.args.report.now) in
+    let s = c.args.s.now in
+    let copy = leb (length s) (length c.args.copy.now) in
+    let report = leb (3 * changes s) (length c.args.report.now) in
     let e = roomy c.before.before in
-    (start.requires, (leb-true _ _ (and_left copy report e), leb-true _ _ (and_right copy report e)))
+    (c.requires, (leb-true _ _ (and_left copy report e), leb-true _ _ (and_right copy report e)))
 
-returns : tie.Need-returns
+returns : tie.Need-returns-then-s-copy
 returns c =
-    let at_write = c.before.before.before.before in
-    let at_if = at_write.before.before.before in
-    room_done _ _ _ _ _ _ at_if.before.count-changes.ensures (roomy at_if) at_write.write-mended.ensures
+    room_done _ _ _ _ _ _ c.count_changes-n.ensures (roomy c.before.before.before.before.before.before.before) c.write_mended.ensures
 
-returns_2 : tie.Need-returns-2
-returns_2 c = room_short _ _ _ (rw c.before.count-changes.ensures at c.if1.false)
+returns_2 : tie.Need-returns-else-s-copy
+returns_2 c = room_short _ _ _ (rw c.count_changes-n.ensures at c.if-s-copy.false)
 
 pub mend_counted_spec : {M : Type 1} → statement M
 mend_counted_spec =
     tie.close
-    (tie.spec (λ c κs. search rules) mul_if1 write_mended_requires (λ c. search rules) (λ c. search rules) returns
-    returns_2)
+    (tie.spec (λ c κs. search rules) mul_if1 write_mended_requires (λ c. search rules) (λ c. search rules) returns returns_2)

@@ -7,13 +7,11 @@ use Rattle.mend.proofs.mended_at.Tie as tie
 returns : tie.Need-returns
 unfolding mended_at byte_of
 returns c =
-    let at_row = c.before.before.before in
-    let start = at_row.before.before in
     rw (
-      ← start.requires.0,
-      ← at_row.row_at_lem.ensures,
-      ← c.before.before.row-mended.ensures,
-      ← c.before.number_in.ensures,
+      ← c.requires.0,
+      ← c.row_at.ensures,
+      ← c.row_mended-w.ensures,
+      ← c.number_in.ensures,
     ) c.byte_in.ensures
 
 pub mended_at_spec : {M : Type 1} → statement M

@@ -3,22 +3,22 @@ use Rattle.octets.specs.Bytes.{word}
 use Rattle.mend.proofs.number_in.Statement.{statement}
 use Rattle.mend.proofs.number_in.Tie as tie
 
-returns : tie.Need-returns
+returns : tie.Need-returns-in-0
 unfolding word
-returns c = rw c.match.keys1
+returns c = rw c.in-0.is
 
-returns_2 : tie.Need-returns-2
+returns_2 : tie.Need-returns-in-1
 unfolding word
-returns_2 c = rw c.match.keys2
+returns_2 c = rw c.in-1.is
 
-returns_3 : tie.Need-returns-3
+returns_3 : tie.Need-returns-in-2
 unfolding word
-returns_3 c = rw c.match.keys3
+returns_3 c = rw c.in-2.is
 
-returns_4 : tie.Need-returns-4
+returns_4 : tie.Need-returns-in_default
 unfolding word
 returns_4 c =
-    let r = c.match.rest in
+    let r = c.in_default.in_default-own.rest in
     rw (ne_eqb _ _ r.0.0.1, ne_eqb _ _ r.0.1, ne_eqb _ _ r.1)
 
 pub number_in_spec : {M : Type 1} → statement M

@@ -5,4 +5,4 @@ use Rattle.mend.proofs.one_if_changed.Tie as tie
 
 pub one_if_changed_spec : {M : Type 1} → statement M
 one_if_changed_spec =
-    tie.close (tie.spec (λ c. sym (notes_same _ _ c.if1.true)) (λ c. sym (notes_other _ _ c.if1.false)))
+    tie.close (tie.spec (λ c. sym (notes_same _ _ c.if-old-new.true)) (λ c. sym (notes_other _ _ c.if-old-new.false)))

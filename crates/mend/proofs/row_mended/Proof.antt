@@ -4,43 +4,41 @@ use borrow.Author.Rules.{rules}
 use Rattle.mend.proofs.row_mended.Statement.{statement}
 use Rattle.mend.proofs.row_mended.Tie as tie
 
-returns : tie.Need-returns
+returns : tie.Need-returns-then-r-boundaries
 unfolding row_mended
-returns c = rw (lt-ltb _ _ c.if1.true)
+returns c = rw (lt-ltb _ _ c.if-r-boundaries.true)
 
-returns_2 : tie.Need-returns-2
+returns_2 : tie.Need-returns-then-r-plants
 unfolding row_mended
-returns_2 c = rw (le-ltb _ _ c.before.if1.false, lt-ltb _ _ c.if2.true)
+returns_2 c = rw (le-ltb _ _ c.if-r-boundaries.false, lt-ltb _ _ c.if-r-plants.true)
 
-returns_3 : tie.Need-returns-3
+returns_3 : tie.Need-returns-then-r-end
 unfolding row_mended
 returns_3 c =
-    rw (le-ltb _ _ c.before.before.if1.false, le-ltb _ _ c.before.if2.false, lt-ltb _ _ c.if3.true)
+    rw (le-ltb _ _ c.if-r-boundaries.false, le-ltb _ _ c.if-r-plants.false, lt-ltb _ _ c.if-r-end.true)
 
-returns_4 : tie.Need-returns-4
+returns_4 : tie.Need-returns-then-r-end-2
 unfolding row_mended
 returns_4 c =
-    let e = c.before.before in
     rw (
-      le-ltb _ _ e.before.before.before.if1.false,
-      le-ltb _ _ e.before.before.if2.false,
-      le-ltb _ _ e.before.if3.false,
-      eq-eqb _ _ e.if4.true,
-      ← c.before.distance.ensures,
-      ← c.distance2.ensures,
+      le-ltb _ _ c.if-r-boundaries.false,
+      le-ltb _ _ c.if-r-plants.false,
+      le-ltb _ _ c.if-r-end.false,
+      eq-eqb _ _ c.if-r-end-2.true,
+      ← c.distance.ensures,
+      ← c.distance-then-r-end-2.ensures,
     )
 
-returns_5 : tie.Need-returns-5
+returns_5 : tie.Need-returns-else-r-end-2
 unfolding row_mended
 returns_5 c =
-    let e = c.before.before in
     rw (
-      le-ltb _ _ e.before.before.before.if1.false,
-      le-ltb _ _ e.before.before.if2.false,
-      le-ltb _ _ e.before.if3.false,
-      ne_eqb _ _ e.if4.false,
-      ← c.before.distance3.ensures,
-      ← c.distance4.ensures,
+      le-ltb _ _ c.if-r-boundaries.false,
+      le-ltb _ _ c.if-r-plants.false,
+      le-ltb _ _ c.if-r-end.false,
+      ne_eqb _ _ c.if-r-end-2.false,
+      ← c.distance-else-r-end-2.ensures,
+      ← c.distance-else-r-end-2-2.ensures,
     )
 
 pub row_mended_spec : {M : Type 1} → statement M

@@ -4,7 +4,7 @@ use Rattle.printing.proofs.Money.{past_one, past_fits}
 use Rattle.printing.proofs.below_minus_one.Statement.{statement}
 use Rattle.printing.proofs.below_minus_one.Tie as tie
 
-sub_result : tie.Need-overflow-sub-result
+sub_result : tie.Need-overflow_sub-result
 sub_result c =
     let x = c.args.x in
     rw (to_z-of_z w64 x c.ranges.x, past_one x c.requires) (past_fits x c.requires c.ranges.x)

@@ -6,8 +6,7 @@ use Rattle.printing.proofs.head_length.Tie as tie
 
 returns : tie.Need-returns
 returns c =
-    let p = c.before.put-head in
-    let e = size _ p.result _ p.ensures.0 in (omega arith, omega arith)
+    let e = size _ c.put_head.result _ c.put_head.ensures.0 in (omega arith, omega arith)
 
 pub head_length_spec : {M : Type 1} → statement M
 head_length_spec = tie.close (tie.spec (λ c. search rules) (λ c κs. search rules) (λ c. search rules) returns)

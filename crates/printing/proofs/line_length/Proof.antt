@@ -6,8 +6,7 @@ use Rattle.printing.proofs.line_length.Tie as tie
 
 returns : tie.Need-returns
 returns c =
-    let p = c.before.put-line in
-    let e = size _ p.result _ p.ensures.text_is in (omega arith, omega arith)
+    let e = size _ c.put_line.result _ c.put_line.ensures.text_is in (omega arith, omega arith)
 
 pub line_length_spec : {M : Type 1} → statement M
 line_length_spec = tie.close (tie.spec (λ c. search rules) (λ c κs. search rules) (λ c. search rules) returns)

@@ -5,7 +5,7 @@ use Rattle.printing.proofs.Money.{casts}
 use Rattle.printing.proofs.plain.Statement.{statement}
 use Rattle.printing.proofs.plain.Tie as tie
 
-cast_result : tie.Need-overflow-cast-result
+cast_result : tie.Need-overflow_cast-result
 cast_result c = rw (to_z-of_z w64 c.args.x c.ranges.x) (casts c.args.x c.requires c.ranges.x)
 
 pub plain_spec : {M : Type 1} → statement M

@@ -7,47 +7,45 @@ use Rattle.printing.proofs.Text as laws
 use Rattle.printing.proofs.put_decimal.Statement.{statement}
 use Rattle.printing.proofs.put_decimal.Tie as tie
 
-abbrev invariant_loop : tie.invariant-loop
+abbrev invariant_loop : tie.invariant-loop-rest
 invariant_loop s₀ at n i₀ rest₀ left₀ s i rest left =
     (rest < 10 ^ (left + 1)) × (at + left ≡ i + 19) × (left ≤ 19) × (length s ≡ length s₀)
     × (spell 19 n (drop at s₀) ≡ spell left rest (drop i s))
 
-abbrev decreases_loop : tie.decreases-loop
+abbrev decreases_loop : tie.decreases-loop-rest
 decreases_loop s₀ at n i₀ rest₀ left₀ s i rest left = left
 
-loop_holds : tie.Need-loop-init invariant_loop decreases_loop
+loop_holds : tie.Need-loop-rest-init invariant_loop decreases_loop
 loop_holds c = (omega arith, omega arith, omega arith, refl, refl)
 
-sub_left : tie.Need-overflow-sub-left invariant_loop decreases_loop
-sub_left c = let l = laws.some_left _ _ c.loop-test.true c.before.loop.invariant.0 in omega arith
+sub_left : tie.Need-overflow_sub-left invariant_loop decreases_loop
+sub_left c = let l = laws.some_left _ _ c.loop-rest-test.true c.loop-rest.invariant.0 in omega arith
 
-loop_less : tie.Need-loop-smaller invariant_loop decreases_loop
-loop_less c = let l = laws.some_left _ _ c.loop-test.true c.before.loop.invariant.0 in omega arith
+loop_less : tie.Need-loop-rest-smaller invariant_loop decreases_loop
+loop_less c = let l = laws.some_left _ _ c.loop-rest-test.true c.loop-rest.invariant.0 in omega arith
 
-loop_again : tie.Need-loop-preserved invariant_loop decreases_loop
-loop_again c = let b = c.before.loop in
-    let p = laws.some_left b.left b.rest c.loop-test.true b.invariant.0 in
-    let z : 0 < b.i = omega arith in
-    let l : b.i ≤ length b.s = omega arith in (
-      laws.fewer b.left b.rest p b.invariant.0,
+loop_again : tie.Need-loop-rest-preserved invariant_loop decreases_loop
+loop_again c = let p = laws.some_left c.loop-rest.left c.loop-rest.rest c.loop-rest-test.true c.loop-rest.invariant.0 in
+    let z : 0 < c.loop-rest.i = omega arith in
+    let l : c.loop-rest.i ≤ length c.loop-rest.s = omega arith in (
+      laws.fewer c.loop-rest.left c.loop-rest.rest p c.loop-rest.invariant.0,
       omega arith,
       omega arith,
-      length-set b.s (b.i - 1) (48 + b.rest % 10) ∙ b.invariant.3,
-      rw (laws.lead b.s b.i (48 + b.rest % 10) z l)
-          (b.invariant.4 ∙ laws.spell_more b.left b.rest (drop b.i b.s) c.loop-test.true p),
+      length-set c.loop-rest.s (c.loop-rest.i - 1) (48 + c.loop-rest.rest % 10) ∙ c.loop-rest.invariant.3,
+      rw (laws.lead c.loop-rest.s c.loop-rest.i (48 + c.loop-rest.rest % 10) z l)
+          (c.loop-rest.invariant.4 ∙ laws.spell_more c.loop-rest.left c.loop-rest.rest (drop c.loop-rest.i c.loop-rest.s) c.loop-rest-test.true p),
     )
 
-same_length : tie.Need-same-length invariant_loop decreases_loop
-same_length c = let b = c.before.loop in length-set b.s (b.i - 1) (48 + b.rest % 10) ∙ b.invariant.3
+same_length : tie.Need-shape_of-s invariant_loop decreases_loop
+same_length c = length-set c.loop-rest.s (c.loop-rest.i - 1) (48 + c.loop-rest.rest % 10) ∙ c.loop-rest.invariant.3
 
 returns : tie.Need-returns invariant_loop decreases_loop
-returns c = let b = c.before.loop in
-    let z : 0 < b.i = omega arith in
-    let l : b.i ≤ length b.s = omega arith in
+returns c = let z : 0 < c.loop-rest.i = omega arith in
+    let l : c.loop-rest.i ≤ length c.loop-rest.s = omega arith in
     record {
       text_is =
-          laws.lead b.s b.i (48 + b.rest % 10) z l
-          ∙ sym (b.invariant.4 ∙ laws.spell_last b.left b.rest (drop b.i b.s) c.loop-test.false);
+          laws.lead c.loop-rest.s c.loop-rest.i (48 + c.loop-rest.rest % 10) z l
+          ∙ sym (c.loop-rest.invariant.4 ∙ laws.spell_last c.loop-rest.left c.loop-rest.rest (drop c.loop-rest.i c.loop-rest.s) c.loop-rest-test.false);
       low = omega arith;
       high = omega arith;
     }
@@ -55,6 +53,6 @@ returns c = let b = c.before.loop in
 pub put_decimal_spec : {M : Type 1} → statement M
 put_decimal_spec =
     tie.close
-    (tie.spec invariant_loop decreases_loop loop_holds (λ c. omega arith) (λ c. omega arith) (λ c. omega arith) (λ c. omega arith)
-    sub_left loop_less loop_again (λ c. omega arith) (λ c. omega arith) (λ c. omega arith) (λ c. omega arith)
+    (tie.spec invariant_loop decreases_loop loop_holds (λ c. omega arith) (λ c. omega arith) (λ c. omega arith)
+    (λ c. omega arith) sub_left loop_less loop_again (λ c. omega arith) (λ c. omega arith) (λ c. omega arith) (λ c. omega arith)
     same_length returns)

@@ -5,17 +5,17 @@ use Rattle.printing.specs.Put.{head_of}
 use Rattle.printing.proofs.put_head.Statement.{statement}
 use Rattle.printing.proofs.put_head.Tie as tie
 
-returns : tie.Need-returns
+returns : tie.Need-returns-then-r-eq0
 unfolding head_of
 returns c =
-    let p = c.before.before.put-hour.ensures in
-    (p.0 ∙ (rw (eq-eqb _ _ c.before.before.before.before.if1.true)), p.1)
+    let p = c.put_hour.ensures in
+    (p.0 ∙ (rw (eq-eqb _ _ c.if-r-eq0.true)), p.1)
 
-returns_2 : tie.Need-returns-2
+returns_2 : tie.Need-returns-else-r-eq0
 unfolding head_of
 returns_2 c =
-    let p = c.before.before.Put-refused.ensures in
-    (p.0 ∙ (rw (ne_eqb _ _ c.before.before.before.before.if1.false)), p.1)
+    let p = c.put_refused.ensures in
+    (p.0 ∙ (rw (ne_eqb _ _ c.if-r-eq0.false)), p.1)
 
 pub put_head_spec : {M : Type 1} → statement M
 put_head_spec =

@@ -13,19 +13,14 @@ use Rattle.printing.proofs.put_line.Tie as tie
 returns : tie.Need-returns
 unfolding line_of
 returns c =
-    let at_shared_slice_known6 = c.before.before.before.before.before.before.before in
-    let at_put_signed = at_shared_slice_known6.before.before.before.before.before.before in
-    let at_owed = at_put_signed.before.before in
-    let at_put_byte = at_owed.before.before.before in
-    let at_start = at_put_byte.before.before.before.before.before in
-    let a = at_start.args in
-    let b = at_put_byte.put_byte.ensures.text_is in
-    let m = at_put_signed.put-signed.ensures.text_is in
-    let n = c.before.before.put-spaced.ensures.text_is in
+    let a = c.args in
+    let b = c.put_byte-i.ensures.text_is in
+    let m = c.put_signed-j.ensures.text_is in
+    let n = c.put_spaced.ensures.text_is in
     record {
       text_is =
           n ∙ ap (spaced (line_numbers a.kinds.now a.figures.now a.a))
-          (m ∙ (rw (to_z-of_z w64 (get_or a.money.now a.a (pos 0)) (record { sfits = at_owed.owed.given }), b)));
+          (m ∙ (rw (to_z-of_z w64 (get_or a.money.now a.a (pos 0)) (record { sfits = c.owed-1.given }), b)));
       low = omega arith;
       high = omega arith;
     }
@@ -34,8 +29,7 @@ pub put_line_spec : {M : Type 1} → statement M
 put_line_spec =
     tie.close
     (tie.spec (λ c κs. search rules) (λ c. omega arith) (λ c. omega arith) (λ c κs. search rules) (λ c. omega arith)
-    (λ c. omega arith) (λ c. omega arith) (λ c. omega arith) (λ c. omega arith) (λ c. omega arith)
-    (λ c. omega arith) (λ c. omega arith) (λ c. omega arith) (λ c. omega arith) (λ c. omega arith)
-    (λ c. omega arith) (λ c. omega arith) (λ c. omega arith) (λ c. omega arith) (λ c. omega arith)
-    (λ c. omega arith) (λ c. omega arith) (λ c. omega arith) (λ c. omega arith) (λ c κs. search rules)
-    (λ c. omega arith) returns)
+    (λ c. omega arith) (λ c. omega arith) (λ c. omega arith) (λ c. omega arith) (λ c. omega arith) (λ c. omega arith)
+    (λ c. omega arith) (λ c. omega arith) (λ c. omega arith) (λ c. omega arith) (λ c. omega arith) (λ c. omega arith)
+    (λ c. omega arith) (λ c. omega arith) (λ c. omega arith) (λ c. omega arith) (λ c. omega arith) (λ c. omega arith)
+    (λ c. omega arith) (λ c κs. search rules) (λ c. omega arith) returns)

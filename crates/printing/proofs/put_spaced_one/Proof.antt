@@ -9,11 +9,8 @@ use Rattle.printing.proofs.put_spaced_one.Tie as tie
 
 returns : tie.Need-returns
 returns c =
-    let p = c.before.before.put-decimal in
-    let w = c.before.before.before.wide in
-    let b = c.before.before.before.before.before.before.before.put_byte in
     record {
-      text_is = p.ensures.text_is ∙ ap₂ (λ (n : ℕ) (l : List ℕ). spell 19 n l) w.ensures b.ensures.text_is;
+      text_is = c.put_decimal.ensures.text_is ∙ ap₂ (λ (n : ℕ) (l : List ℕ). spell 19 n l) c.wide.ensures c.put_byte-i.ensures.text_is;
       low = omega arith;
       high = omega arith;
     }

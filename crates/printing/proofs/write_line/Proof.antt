@@ -4,17 +4,14 @@ use Rattle.printing.proofs.Printing.{size}
 use Rattle.printing.proofs.write_line.Statement.{statement}
 use Rattle.printing.proofs.write_line.Tie as tie
 
-copy_out_requires : tie.Need-copy-out-requires
+copy_out_requires : tie.Need-copy_out-requires
 copy_out_requires c κs =
-    let p = c.before.before.before.put-line in
-    let e = size p.new.0 p.result _ p.ensures.text_is in (omega arith, omega arith)
+    let e = size c.put_line-from.new.s c.put_line-from.result _ c.put_line-from.ensures.text_is in (omega arith, omega arith)
 
 returns : tie.Need-returns
 returns c =
-    let at_copy = c.before.before in
-    let p = at_copy.before.before.before.before.put-line in
-    let e = size p.new.0 p.result _ p.ensures.text_is in
-    (omega arith, rw p.ensures.text_is at at_copy.copy-out.ensures)
+    let e = size c.put_line-from.new.s c.put_line-from.result _ c.put_line-from.ensures.text_is in
+    (omega arith, rw c.put_line-from.ensures.text_is at c.copy_out.ensures)
 
 pub write_line_spec : {M : Type 1} → statement M
 write_line_spec =

@@ -10,50 +10,45 @@ use Rattle.printing.proofs.Front.{lines_next, lines_longer, lines_grow, appended
 use Rattle.printing.proofs.write_lines.Statement.{statement}
 use Rattle.printing.proofs.write_lines.Tie as tie
 
-abbrev invariant_loop : tie.invariant-loop
+abbrev invariant_loop : tie.invariant-loop-a
 invariant_loop kinds figures money n out₀ from k₀ a₀ out k a =
     (a ≤ n) × (length out ≡ length out₀) × (k ≡ from + length (lines_to (line_of kinds figures money) a []))
     × Appended (lines_to (line_of kinds figures money) a []) from out₀ out
 
-abbrev decreases_loop : tie.decreases-loop
+abbrev decreases_loop : tie.decreases-loop-a
 decreases_loop kinds figures money n out₀ from k₀ a₀ out k a = n - a
 
-loop_holds : tie.Need-loop-init invariant_loop decreases_loop
+loop_holds : tie.Need-loop-a-init invariant_loop decreases_loop
 unfolding lines_to
 loop_holds c = (omega arith, refl, omega arith, appended_none _ _)
 
-write_line_requires : tie.Need-write-line-requires invariant_loop decreases_loop
+write_line_requires : tie.Need-write_line-k-requires invariant_loop decreases_loop
 write_line_requires c κs =
-    let now_at = c.before.before in
-    let start = now_at.before.before.before.before in
-    let a = start.args in
-    let longer = lines_longer a.kinds.now a.figures.now a.money.now now_at.loop.a in
+    let a = c.args in
+    let longer = lines_longer a.kinds.now a.figures.now a.money.now c.loop-a.a in
     let grow =
-    lines_grow a.kinds.now a.figures.now a.money.now (now_at.loop.a + 1) a.n (omega arith) in
-    ((start.requires.0.0, omega arith), omega arith)
+    lines_grow a.kinds.now a.figures.now a.money.now (c.loop-a.a + 1) a.n (omega arith) in
+    ((c.requires.0.0, omega arith), omega arith)
 
-loop_again : tie.Need-loop-preserved invariant_loop decreases_loop
+loop_again : tie.Need-loop-a-preserved invariant_loop decreases_loop
 loop_again c =
-    let at_call = c.before.before in
-    let now_at = at_call.before.before.before in
-    let a = now_at.before.before.before.before.args in
-    let longer = lines_longer a.kinds.now a.figures.now a.money.now now_at.loop.a in
-    let p = at_call.write-line in
-    let l = p.auto.0 in (
+    let a = c.args in
+    let longer = lines_longer a.kinds.now a.figures.now a.money.now c.loop-a.a in
+    let l = c.write_line-k.auto.out in (
       omega arith,
       omega arith,
-      omega (arith, p.ensures.0),
-      rw (lines_next a.kinds.now a.figures.now a.money.now now_at.loop.a)
-          (appended_more _ _ _ _ _ _ _ now_at.loop.invariant.2 now_at.loop.invariant.3 p.ensures.1),
+      omega (arith, c.write_line-k.ensures.0),
+      rw (lines_next a.kinds.now a.figures.now a.money.now c.loop-a.a)
+          (appended_more _ _ _ _ _ _ _ c.loop-a.invariant.2 c.loop-a.invariant.3 c.write_line-k.ensures.1),
     )
 
 returns : tie.Need-returns invariant_loop decreases_loop
 returns c =
-    let e : c.before.loop.a ≡ c.before.before.before.before.before.args.n = omega arith in
-    rw e at c.before.loop.invariant.3
+    let e : c.loop-a.a ≡ c.args.n = omega arith in
+    rw e at c.loop-a.invariant.3
 
 pub write_lines_spec : {M : Type 1} → statement M
 write_lines_spec =
     tie.close
     (tie.spec invariant_loop decreases_loop loop_holds write_line_requires (λ c. omega arith) (λ c. omega arith) loop_again
-    (λ c. c.before.loop.invariant.1) returns)
+    (λ c. c.loop-a.invariant.1) returns)

@@ -11,9 +11,9 @@ use Rattle.printing.specs.declared.Printed.{Printed}
 use Rattle.printing.proofs.pen.give.Statement.{statement}
 use Rattle.printing.proofs.pen.give.Tie as tie
 
-returns : tie.Need-returns
+returns : tie.Need-returns-then-s-from
 returns c =
-    let a = c.before.before.before.args in
+    let a = c.args in
     let s = a.s.now in
     let o = a.out.now in
     let z : length (drop a.from s) ≡ 0 = length-drop a.from s ∙ omega arith in
@@ -26,9 +26,9 @@ returns c =
           (filled_none 0 o (at (drop a.from s)));
     })
 
-returns_2 : tie.Need-returns-2
+returns_2 : tie.Need-returns-then-out-s
 returns_2 c =
-    let a = c.before.before.before.before.args in
+    let a = c.args in
     let s = a.s.now in
     let o = a.out.now in
     let z : length (drop a.from s) ≡ length s - a.from = length-drop a.from s in
@@ -36,21 +36,19 @@ returns_2 c =
     rw (lt-leb (length (drop a.from s)) (length o) f)
     (record { answer = refl; bytes = filled_none 0 o (at (drop a.from s)) })
 
-returns_3 : tie.Need-returns-3
+returns_3 : tie.Need-returns
 returns_3 c =
-    let p = c.before.before in
-    let e = p.before.before in
-    let a = e.before.before.before.before.args in
+    let a = c.args in
     let s = a.s.now in
     let o = a.out.now in
     let z : length (drop a.from s) ≡ length s - a.from = length-drop a.from s in
-    let f : length (drop a.from s) ≤ length o = omega (arith, e.if2.false) in
+    let f : length (drop a.from s) ≤ length o = omega (arith, c.if-out-s.false) in
     rw (le-leb (length (drop a.from s)) (length o) f)
     (record {
       answer = ap Printed.Done (sym z);
       bytes =
           filled_count 0 o _ (0 + length (drop a.from s)) (length (drop a.from s)) (at (drop a.from s)) (omega arith)
-          (p.copy-out.ensures o [] refl (filled_none 0 o (at [])));
+          (c.copy_out.ensures o [] refl (filled_none 0 o (at [])));
     })
 
 pub give_spec : {M : Type 1} → statement M

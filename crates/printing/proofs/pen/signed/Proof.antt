@@ -12,41 +12,33 @@ use Rattle.printing.proofs.Room.{no_room_lem, room}
 use Rattle.printing.proofs.pen.signed.Statement.{statement}
 use Rattle.printing.proofs.pen.signed.Tie as tie
 
-returns : tie.Need-returns
+returns : tie.Need-returns-then-at-s
 returns c =
-    let a = c.before.before.args in
-    record { put = λ p q. absurd (no_room_lem a.at 22 (length a.s.now) c.if1.true p q) }
+    let a = c.args in
+    record { put = λ p q. absurd (no_room_lem a.at 22 (length a.s.now) c.if-at-s.true p q) }
 
-put_signed_requires : tie.Need-put-signed-requires
+put_signed_requires : tie.Need-put_signed-i-requires
 put_signed_requires c κs =
-    let e = c.before in
-    let a = e.before.before.args in
-    let r = room a.at 22 (length a.s.now) e.if1.false in
+    let a = c.args in
+    let r = room a.at 22 (length a.s.now) c.if-at-s.false in
     (omega (arith, r.0), r.1)
 
-put_byte_requires : tie.Need-put-byte-requires
+put_byte_requires : tie.Need-put_byte-requires
 put_byte_requires c κs =
-    let d = c.before.before.before in
-    let e = d.before.before in
-    let a = e.before.before.args in
-    let r = room a.at 22 (length a.s.now) e.if1.false in
-    let u = d.put-signed in
-    let k = u.auto.0 in
-    (omega (arith, r.0, u.ensures.low), omega (arith, r.1, u.ensures.high, k))
+    let a = c.args in
+    let r = room a.at 22 (length a.s.now) c.if-at-s.false in
+    let k = c.put_signed-i.auto.s in
+    (omega (arith, r.0, c.put_signed-i.ensures.low), omega (arith, r.1, c.put_signed-i.ensures.high, k))
 
-returns_2 : tie.Need-returns-2
+returns_2 : tie.Need-returns
 returns_2 c =
-    let b = c.before.before in
-    let d = b.before.before.before.before in
-    let e = d.before.before in
-    let start = e.before.before in
-    let u = d.put-signed.ensures in
-    let w = b.put_byte.ensures in
-    let q = to_z-of_z w64 start.args.x start.ranges.x in
+    let u = c.put_signed-i.ensures in
+    let w = c.put_byte.ensures in
+    let q = to_z-of_z w64 c.args.x c.ranges.x in
     record {
       put = λ p q'. record {
         text_is = w.text_is
-            ∙ ap (λ (l : List ℕ). 32 ∷ l) (u.text_is ∙ ap (λ (x : ℤ). signed x (drop start.args.at start.args.s.now)) q);
+            ∙ ap (λ (l : List ℕ). 32 ∷ l) (u.text_is ∙ ap (λ (x : ℤ). signed x (drop c.args.at c.args.s.now)) q);
         low = omega (arith, u.low, w.low);
         high = omega (arith, u.high, w.high);
       };

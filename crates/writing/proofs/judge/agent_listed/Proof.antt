@@ -6,7 +6,7 @@ use Rattle.writing.proofs.judge.agent_listed.Tie as tie
 returns : tie.Need-returns
 unfolding agent_listed
 returns c =
-    let good = rw c.before.before.agent-in.ensures at c.before.agent_good_lem.ensures in
+    let good = rw c.agent_in.ensures at c.agent_good.ensures in
     rw good at c.unless.ensures
 
 pub agent_listed_spec : {M : Type 1} → statement M

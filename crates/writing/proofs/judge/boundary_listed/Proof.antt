@@ -8,9 +8,9 @@ unfolding boundary_listed
 returns c =
     rw (
       c.unless.ensures,
-      c.before.boundary-good.ensures,
-      c.before.before.kind_in_lem.ensures,
-      c.before.before.before.boundary-in.ensures,
+      c.boundary_good.ensures,
+      c.kind_in.ensures,
+      c.boundary_in-b.ensures,
     )
 
 pub boundary_listed_spec : {M : Type 1} → statement M

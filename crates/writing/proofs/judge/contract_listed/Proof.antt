@@ -8,14 +8,14 @@ unfolding contract_listed
 returns c =
     rw (
       c.unless.ensures,
-      c.before.contract-good.ensures,
-      c.before.before.kind-in2.ensures,
-      c.before.before.before.kind_in_lem.ensures,
-      c.before.before.before.before.contract-in.ensures,
+      c.contract_good.ensures,
+      c.kind_in-buyer.ensures,
+      c.kind_in-seller.ensures,
+      c.contract_in-k.ensures,
     )
 
 pub contract_listed_spec : {M : Type 1} → statement M
 contract_listed_spec =
     tie.close
-    (tie.spec (λ c κs. search rules) (λ c κs. search rules) (λ c κs. search rules) (λ c κs. search rules)
-    (λ c κs. search rules) returns)
+    (tie.spec (λ c κs. search rules) (λ c κs. search rules) (λ c κs. search rules) (λ c κs. search rules) (λ c κs. search rules)
+    returns)

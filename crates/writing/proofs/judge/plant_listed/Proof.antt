@@ -8,9 +8,9 @@ unfolding plant_listed
 returns c =
     rw (
       c.unless.ensures,
-      c.before.plant-good.ensures,
-      c.before.before.kind_in_lem.ensures,
-      c.before.before.before.plant-in.ensures,
+      c.plant_good.ensures,
+      c.kind_in.ensures,
+      c.plant_in-p.ensures,
     )
 
 pub plant_listed_spec : {M : Type 1} → statement M

@@ -10,73 +10,53 @@ use borrow.Author.Rules.{rules}
 use Rattle.writing.proofs.judge.section_listed.Statement.{statement}
 use Rattle.writing.proofs.judge.section_listed.Tie as tie
 
-abbrev invariant_loop : tie.invariant-loop
+abbrev invariant_loop : tie.invariant-loop-i
 invariant_loop agents boundaries plants contracts section n i₀ i =
     let f = row_listed (numbers agents boundaries plants contracts) section in
     (i ≤ n) × (first_bad f 0 n ≡ first_bad f i (n - i))
 
-abbrev decreases_loop : tie.decreases-loop
+abbrev decreases_loop : tie.decreases-loop-i
 decreases_loop agents boundaries plants contracts section n i₀ i =
     n - i
-
--- ways back: X-to-Y leads from the place X of the code to the earlier place Y
-abbrev after_loop_to_start : tie.After-loop invariant_loop decreases_loop → tie.Start invariant_loop decreases_loop
-after_loop_to_start c = c.before.before.before.before.before.before
-
-abbrev enum_told_to_in_loop : tie.After-enum-told invariant_loop decreases_loop → tie.In-loop invariant_loop decreases_loop
-enum_told_to_in_loop c = c.before.before.before
-
-abbrev enum_told_to_loop : tie.After-enum-told invariant_loop decreases_loop → tie.At-loop invariant_loop decreases_loop
-enum_told_to_loop c = c.before.before.before.before
-
-abbrev enum_told2_to_in_loop : tie.After-enum-told2 invariant_loop decreases_loop → tie.In-loop invariant_loop decreases_loop
-enum_told2_to_in_loop c = c.before.before.before
-
-abbrev enum_told2_to_loop : tie.After-enum-told2 invariant_loop decreases_loop → tie.At-loop invariant_loop decreases_loop
-enum_told2_to_loop c = c.before.before.before.before
-
-abbrev enum_told2_to_start : tie.After-enum-told2 invariant_loop decreases_loop → tie.Start invariant_loop decreases_loop
-enum_told2_to_start c = (enum_told2_to_loop c).before.before.before.before.before
 
 abbrev given : tie.Start invariant_loop decreases_loop → Numbers
 given c = numbers c.args.agents.now c.args.boundaries.now c.args.plants.now c.args.contracts.now
 
-loop_holds : tie.Need-loop-init invariant_loop decreases_loop
+loop_holds : tie.Need-loop-i-init invariant_loop decreases_loop
 loop_holds c = (search rules, from_start _ _)
 
-row_listed_requires : tie.Need-row-listed-requires invariant_loop decreases_loop
+row_listed_requires : tie.Need-row_listed-v-requires invariant_loop decreases_loop
 row_listed_requires c κs =
-    let at_start = c.before.before.before.before.before.before in
-    let l = rw at_start.requires.1 at c.loop-test.true in
-    (l, omega (arith, rows_small (given at_start) at_start.args.section at_start.requires.0, l))
+    let l = rw c.requires.1 at c.loop-i-test.true in
+    (l, omega (arith, rows_small (given c.before.before.before.before.before.before) c.args.section c.requires.0, l))
 
-enum_told : tie.Need-enum-told invariant_loop decreases_loop
+enum_told : tie.Need-enum_told-1 invariant_loop decreases_loop
 enum_told c = search rules
 
-returns : tie.Need-returns invariant_loop decreases_loop
+returns : tie.Need-returns-in_default invariant_loop decreases_loop
 unfolding section_listed
 returns c =
-    let e = sym c.before.before.row_listed.ensures ∙ c.enum-told2.given.1 in
-    c.enum-told2.given.1 ∙ sym
-    ((enum_told2_to_loop c).loop.invariant.1 ∙ bad_row _ _ _ _ (enum_told2_to_in_loop c).loop-test.true e)
-    ∙ ap (first_bad _ 0) (enum_told2_to_start c).requires.1
+    let e = sym c.row_listed-v.ensures ∙ c.in_default.is in
+    c.in_default.is ∙ sym
+    (c.loop-i.invariant.1 ∙ bad_row _ _ _ _ c.loop-i-test.true e)
+    ∙ ap (first_bad _ 0) c.requires.1
 
-loop_again : tie.Need-loop-preserved invariant_loop decreases_loop
+loop_again : tie.Need-loop-i-preserved invariant_loop decreases_loop
 loop_again c = (
   search rules,
-  (enum_told_to_loop c).loop.invariant.1
-      ∙ good_row _ _ _ (enum_told_to_in_loop c).loop-test.true
-      (sym c.before.before.row_listed.ensures ∙ c.enum_told.given.1),
+  c.loop-i.invariant.1
+      ∙ good_row _ _ _ c.loop-i-test.true
+      (sym c.row_listed-v.ensures ∙ c.in-Fine.is),
 )
 
-returns_2 : tie.Need-returns-2 invariant_loop decreases_loop
+returns_2 : tie.Need-returns invariant_loop decreases_loop
 unfolding section_listed
 returns_2 c =
-    sym (c.before.loop.invariant.1 ∙ none_bad _ _ _ c.loop-test.false)
-    ∙ ap (first_bad _ 0) (after_loop_to_start c).requires.1
+    sym (c.loop-i.invariant.1 ∙ none_bad _ _ _ c.loop-i-test.false)
+    ∙ ap (first_bad _ 0) c.requires.1
 
 pub section_listed_spec : {M : Type 1} → statement M
 section_listed_spec =
     tie.close
-    (tie.spec invariant_loop decreases_loop loop_holds row_listed_requires enum_told
-    (λ c. search rules) returns (λ c. search rules) (λ c. search rules) loop_again returns_2)
+    (tie.spec invariant_loop decreases_loop loop_holds row_listed_requires enum_told (λ c. search rules) returns
+    (λ c. search rules) (λ c. search rules) loop_again returns_2)

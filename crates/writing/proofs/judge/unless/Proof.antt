@@ -2,8 +2,8 @@ use borrow.Author.Rules.{rules}
 use Rattle.writing.proofs.judge.unless.Statement.{statement}
 use Rattle.writing.proofs.judge.unless.Tie as tie
 
-returns_2 : tie.Need-returns-2
-returns_2 c = rw c.before.if1.false c.refuse.ensures
+returns_2 : tie.Need-returns-else-ok
+returns_2 c = rw c.if-ok.false c.refuse.ensures
 
 pub unless_spec : {M : Type 1} → statement M
 unless_spec = tie.close

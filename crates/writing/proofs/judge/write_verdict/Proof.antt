@@ -18,150 +18,114 @@ use borrow.Author.Rules.{rules}
 use Rattle.writing.proofs.judge.write_verdict.Statement.{statement}
 use Rattle.writing.proofs.judge.write_verdict.Tie as tie
 
--- ways back: X-to-Y leads from the place X of the code to the earlier place Y
-abbrev counts_in_to_start : tie.After-counts-in → tie.Start
-counts_in_to_start c = c.before.before.before.before.before.before.before
-
-abbrev unless_to_start : tie.After-unless → tie.Start
-unless_to_start c = counts_in_to_start c.before.before
-
-abbrev enum_told_to_counts_in : tie.After-enum-told → tie.After-counts-in
-enum_told_to_counts_in c = c.before.before.before.before.before
-
-abbrev enum_told_to_start : tie.After-enum-told → tie.Start
-enum_told_to_start c = counts_in_to_start (enum_told_to_counts_in c)
-
-abbrev enum_told3_to_counts_in : tie.After-enum-told3 → tie.After-counts-in
-enum_told3_to_counts_in c = enum_told_to_counts_in c.before.before.before
-
-abbrev enum_told3_to_start : tie.After-enum-told3 → tie.Start
-enum_told3_to_start c = enum_told_to_start c.before.before.before
-
-abbrev enum_told5_to_counts_in : tie.After-enum-told5 → tie.After-counts-in
-enum_told5_to_counts_in c = enum_told3_to_counts_in c.before.before.before
-
-abbrev enum_told5_to_start : tie.After-enum-told5 → tie.Start
-enum_told5_to_start c = enum_told3_to_start c.before.before.before
-
 abbrev given : tie.Start → Numbers
 given c = numbers c.args.agents.now c.args.boundaries.now c.args.plants.now c.args.contracts.now
 
 -- what is known once each check has passed
-lists_fine : (c : tie.After-counts-in) → lists_good (given (counts_in_to_start c)) ≡ true
+lists_fine : (c : tie.After-counts_in-c) → lists_good (given c.before.before.before.before.before.before.before) ≡ true
 lists_fine c =
-    let l = c.before.before.lists-good in sym l.ensures ∙ not-false l.result c.before.if1.false
+    let l = c.lists_good in sym l.ensures ∙ c.if-not-lists_good.false
 
-first_fine : (c : tie.After-enum-told) → section_listed (given (enum_told_to_start c)) 1 ≡ Verdict.Fine
-first_fine c = sym c.before.before.section-listed.ensures ∙ c.enum_told.given.1
+first_fine : (c : tie.In-Fine) → section_listed (given c.before.before.before.before.before.before.before.before.before.before.before) 1 ≡ Verdict.Fine
+first_fine c = sym c.section_listed-a.ensures ∙ c.in-Fine.is
 
-second_fine : (c : tie.After-enum-told3) → section_listed (given (enum_told3_to_start c)) 2 ≡ Verdict.Fine
-second_fine c = sym c.before.before.section-listed2.ensures ∙ c.enum-told3.given.1
+second_fine : (c : tie.In-Fine-b) → section_listed (given c.before.before.before.before.before.before.before.before.before.before.before.before.before) 2 ≡ Verdict.Fine
+second_fine c = sym c.section_listed-b.ensures ∙ c.in-Fine-b.is
 
-third_fine : (c : tie.After-enum-told5) → section_listed (given (enum_told5_to_start c)) 3 ≡ Verdict.Fine
-third_fine c = sym c.before.before.section-listed3.ensures ∙ c.enum-told5.given.1
+third_fine : (c : tie.In-Fine-p) → section_listed (given c.before.before.before.before.before.before.before.before.before.before.before.before.before.before.before) 3 ≡ Verdict.Fine
+third_fine c = sym c.section_listed-p.ensures ∙ c.in-Fine-p.is
 
 -- the verdict on the room
-short_is : (c : tie.After-unless)
-    → c.unless.result
-    ≡ refused_unless (leb (sheet_length (counts_in (given (unless_to_start c)))) (unless_to_start c).args.room) no_room 0
+short_is : (c : tie.After-unless-short)
+    → c.unless-short.result
+    ≡ refused_unless (leb (sheet_length (counts_in (given c.before.before.before.before.before.before.before.before.before))) c.args.room) no_room 0
 short_is c =
-    let size = c.before.size.ensures ∙ ap sheet_length c.before.before.counts-in.ensures in
-    c.unless.ensures ∙ ap (λ (n : ℕ). refused_unless (leb n (unless_to_start c).args.room) no_room 0) size
+    let size = c.size.ensures ∙ ap sheet_length c.counts_in-c.ensures in
+    c.unless-short.ensures ∙ ap (λ (n : ℕ). refused_unless (leb n c.args.room) no_room 0) size
 
-returns : tie.Need-returns
+returns : tie.Need-returns-then-not-lists_good
 unfolding write_verdict
 returns c =
-    let l = c.before.before.lists-good in
-    rw (← l.ensures, not-true l.result c.before.if1.true) c.refuse.ensures
+    let l = c.lists_good in
+    rw (← l.ensures, c.if-not-lists_good.true) c.refuse.ensures
 
 size_requires : tie.Need-size-requires
 size_requires c κs =
-    let at_start = c.before.before.before.before.before.before.before in
-    rw c.counts-in.ensures (lists_small (given at_start) (lists_fine c))
+    rw c.counts_in-c.ensures (lists_small (given c.before.before.before.before.before.before.before) (lists_fine c))
 
-section_listed_requires : tie.Need-section-listed-requires
+section_listed_requires : tie.Need-section_listed-a-requires
 unfolding rows_in
 section_listed_requires c κs =
-    (lists_fine c.before.before, ap (λ (k : Counts). k.agents) c.before.before.counts-in.ensures)
+    (lists_fine c.before.before, ap (λ (k : Counts). k.agents) c.counts_in-c.ensures)
 
-enum_told : tie.Need-enum-told
+enum_told : tie.Need-enum_told-1
 enum_told c = search rules
 
-returns_2 : tie.Need-returns-2
+returns_2 : tie.Need-returns-in_default
 unfolding write_verdict
 returns_2 c =
-    let at_counts_in = c.before.before.before.before.before in
-    rw (lists_fine at_counts_in, ← c.before.before.section-listed.ensures, c.enum-told2.given.1)
+    rw (lists_fine c.before.before.before.before, ← c.section_listed-a.ensures, c.in_default.is)
 
-section_listed_requires_2 : tie.Need-section-listed-requires-2
+section_listed_requires_2 : tie.Need-section_listed-b-requires
 unfolding rows_in
 section_listed_requires_2 c κs = (
-  lists_fine (enum_told_to_counts_in c),
-  ap (λ (k : Counts). k.boundaries) (enum_told_to_counts_in c).counts-in.ensures,
+  lists_fine c.before.before.before.before,
+  ap (λ (k : Counts). k.boundaries) c.counts_in-c.ensures,
 )
 
-returns_3 : tie.Need-returns-3
+returns_3 : tie.Need-returns-in_default-b
 unfolding write_verdict
 returns_3 c =
-    let at_enum_told = c.before.before.before in
-    let at_counts_in = at_enum_told.before.before.before.before.before in
     rw (
-      lists_fine at_counts_in,
-      first_fine at_enum_told,
-      ← c.before.before.section-listed2.ensures,
-      c.enum-told4.given.1,
+      lists_fine c.before.before.before.before.before.before,
+      first_fine c.before.before,
+      ← c.section_listed-b.ensures,
+      c.in_default-b.is,
     )
 
-section_listed_requires_3 : tie.Need-section-listed-requires-3
+section_listed_requires_3 : tie.Need-section_listed-p-requires
 unfolding rows_in
 section_listed_requires_3 c κs = (
-  lists_fine (enum_told3_to_counts_in c),
-  ap (λ (k : Counts). k.plants) (enum_told3_to_counts_in c).counts-in.ensures,
+  lists_fine c.before.before.before.before.before.before,
+  ap (λ (k : Counts). k.plants) c.counts_in-c.ensures,
 )
 
-returns_4 : tie.Need-returns-4
+returns_4 : tie.Need-returns-in_default-p
 unfolding write_verdict
 returns_4 c =
-    let at_enum_told3 = c.before.before.before in
-    let at_enum_told = at_enum_told3.before.before.before in
-    let at_counts_in = at_enum_told.before.before.before.before.before in
     rw (
-      lists_fine at_counts_in,
-      first_fine at_enum_told,
-      second_fine at_enum_told3,
-      ← c.before.before.section-listed3.ensures,
-      c.enum-told6.given.1,
+      lists_fine c.before.before.before.before.before.before.before.before,
+      first_fine c.before.before.before.before,
+      second_fine c.before.before,
+      ← c.section_listed-p.ensures,
+      c.in_default-p.is,
     )
 
-section_listed_requires_4 : tie.Need-section-listed-requires-4
+section_listed_requires_4 : tie.Need-section_listed-k-requires
 unfolding rows_in
 section_listed_requires_4 c κs = (
-  lists_fine (enum_told5_to_counts_in c),
-  ap (λ (k : Counts). k.contracts) (enum_told5_to_counts_in c).counts-in.ensures,
+  lists_fine c.before.before.before.before.before.before.before.before,
+  ap (λ (k : Counts). k.contracts) c.counts_in-c.ensures,
 )
 
-returns_5 : tie.Need-returns-5
+returns_5 : tie.Need-returns
 unfolding write_verdict
 returns_5 c =
-    let at_enum_told3 = c.before.before.before.before.before in
-    let at_enum_told = at_enum_told3.before.before.before in
-    let at_unless = at_enum_told.before.before.before in
-    let at_counts_in = at_unless.before.before in
     rw (
-      lists_fine at_counts_in,
-      first_fine at_enum_told,
-      second_fine at_enum_told3,
+      lists_fine c.before.before.before.before.before.before.before.before.before.before,
+      first_fine c.before.before.before.before.before.before,
+      second_fine c.before.before.before.before,
       third_fine c.before.before,
       c.or_else.ensures,
-      c.before.section-listed4.ensures,
-      short_is at_unless,
+      c.section_listed-k.ensures,
+      short_is c.before.before.before.before.before.before.before.before,
       else_fine,
     )
 
 pub write_verdict_spec : {M : Type 1} → statement M
 write_verdict_spec =
     tie.close
-    (tie.spec (λ c κs. search rules) (λ c κs. search rules) returns (λ c κs. search rules) size_requires
-    (λ c κs. search rules) section_listed_requires enum_told (λ c. search rules) returns_2 section_listed_requires_2
-    (λ c. search rules) (λ c. search rules) returns_3 section_listed_requires_3 (λ c. search rules)
-    (λ c. search rules) returns_4 section_listed_requires_4 (λ c κs. search rules) returns_5)
+    (tie.spec (λ c κs. search rules) (λ c κs. search rules) returns (λ c κs. search rules) size_requires (λ c κs. search rules)
+    section_listed_requires enum_told (λ c. search rules) returns_2 section_listed_requires_2 (λ c. search rules)
+    (λ c. search rules) returns_3 section_listed_requires_3 (λ c. search rules) (λ c. search rules) returns_4
+    section_listed_requires_4 (λ c κs. search rules) returns_5)

@@ -4,8 +4,8 @@ use borrow.Author.Rules.{rules}
 use Rattle.writing.proofs.lists.kind_in.Statement.{statement}
 use Rattle.writing.proofs.lists.kind_in.Tie as tie
 
-returns_2 : tie.Need-returns-2
-returns_2 c = sym (get_or-eq_default c.before.args.agents.now 0 c.if1.false)
+returns_2 : tie.Need-returns-else-i-agents
+returns_2 c = sym (get_or-eq_default c.args.agents.now 0 c.if-i-agents.false)
 
 pub kind_in_spec : {M : Type 1} → statement M
 kind_in_spec = tie.close

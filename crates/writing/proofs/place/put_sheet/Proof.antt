@@ -11,41 +11,41 @@ use borrow.Author.Rules.{rules}
 use Rattle.writing.proofs.place.put_sheet.Statement.{statement}
 use Rattle.writing.proofs.place.put_sheet.Tie as tie
 
-abbrev invariant_loop : tie.invariant-loop
+abbrev invariant_loop : tie.invariant-loop-r
 invariant_loop agents boundaries plants contracts out₀ rows r₀ out r =
     (r ≤ rows) × Filled 0 out₀ out (16 * r) (byte_of (sheet_row (numbers agents boundaries plants contracts)))
 
-abbrev decreases_loop : tie.decreases-loop
+abbrev decreases_loop : tie.decreases-loop-r
 decreases_loop agents boundaries plants contracts out₀ rows r₀ out r =
     rows - r
 
-loop_holds : tie.Need-loop-init invariant_loop decreases_loop
+loop_holds : tie.Need-loop-r-init invariant_loop decreases_loop
 loop_holds c = (search rules, filled_none _ _ _)
 
-row_words_requires : tie.Need-row-words-requires invariant_loop decreases_loop
-row_words_requires c κs = c.before.before.before.before.before.before.before.requires.0
+row_words_requires : tie.Need-row_words-w-requires invariant_loop decreases_loop
+row_words_requires c κs = c.requires.0
 
-mul_put_row : tie.Need-overflow-mul-put-row invariant_loop decreases_loop
-mul_put_row c = let l = c.before.before.before.loop.invariant.1.long in omega arith
+mul_put_row : tie.Need-overflow_mul-r invariant_loop decreases_loop
+mul_put_row c = let l = c.loop-r.invariant.1.long in omega arith
 
-put_row_requires : tie.Need-put-row-requires invariant_loop decreases_loop
-put_row_requires c κs = let l = c.before.before.before.loop.invariant.1.long in omega arith
+put_row_requires : tie.Need-put_row-requires invariant_loop decreases_loop
+put_row_requires c κs = let l = c.loop-r.invariant.1.long in omega arith
 
-loop_again : tie.Need-loop-preserved invariant_loop decreases_loop
+loop_again : tie.Need-loop-r-preserved invariant_loop decreases_loop
 loop_again c = (
   search rules,
-  rw (c.before.before.put-row.ensures, c.before.before.before.before.row_words.ensures)
-      (row_more _ _ _ _ (omega arith) c.before.before.before.before.before.before.loop.invariant.1),
+  rw (c.put_row.ensures, c.row_words-w.ensures)
+      (row_more _ _ _ _ (omega arith) c.loop-r.invariant.1),
 )
 
-same_length : tie.Need-same-length invariant_loop decreases_loop
-same_length c = c.before.loop.invariant.1.long
+same_length : tie.Need-shape_of-out invariant_loop decreases_loop
+same_length c = c.loop-r.invariant.1.long
 
 returns : tie.Need-returns invariant_loop decreases_loop
 returns c =
-    let e : c.before.loop.r
-    ≡ c.before.before.before.before.before.before.before.args.rows = omega arith in
-    rw e at c.before.loop.invariant.1
+    let e : c.loop-r.r
+    ≡ c.args.rows = omega arith in
+    rw e at c.loop-r.invariant.1
 
 pub put_sheet_spec : {M : Type 1} → statement M
 put_sheet_spec =

@@ -5,69 +5,57 @@ use borrow.Author.Rules.{rules}
 use Rattle.writing.proofs.place.row_words.Statement.{statement}
 use Rattle.writing.proofs.place.row_words.Tie as tie
 
-trailer_words_requires : tie.Need-trailer-words-requires
+trailer_words_requires : tie.Need-trailer_words-requires
 trailer_words_requires c κs =
-    let at_shared_slice_known2 = c.before.before.before.before.before.before.before in
-    let at_start = at_shared_slice_known2.before.before in
-    rw c.counts-in.ensures at_start.requires
+    rw c.counts_in.ensures c.requires
 
-returns : tie.Need-returns
+returns : tie.Need-returns-then-r-a
 unfolding sheet_row
 returns c =
-    rw (lt-ltb _ _ c.before.before.if1.true)
-    (c.agent-words.ensures ∙ ap agent_words c.before.agent-in.ensures)
+    rw (lt-ltb _ _ c.if-r-a.true)
+    (c.agent_words.ensures ∙ ap agent_words c.agent_in.ensures)
 
-returns_2 : tie.Need-returns-2
+returns_2 : tie.Need-returns-then-r-b
 unfolding sheet_row
 returns_2 c =
-    let at_else1 = c.before.before.before in
-    rw (le-ltb _ _ at_else1.if1.false, lt-ltb _ _ c.before.before.if2.true)
-    (c.boundary-words.ensures ∙ ap boundary_words c.before.boundary-in.ensures)
+    rw (le-ltb _ _ c.if-r-a.false, lt-ltb _ _ c.if-r-b.true)
+    (c.boundary_words.ensures ∙ ap boundary_words c.boundary_in.ensures)
 
-returns_3 : tie.Need-returns-3
+returns_3 : tie.Need-returns-then-r-p
 unfolding sheet_row
 returns_3 c =
-    let at_else2 = c.before.before.before in
-    let at_else1 = at_else2.before in
     rw (
-      le-ltb _ _ at_else1.if1.false,
-      le-ltb _ _ at_else2.if2.false,
-      lt-ltb _ _ c.before.before.if3.true,
+      le-ltb _ _ c.if-r-a.false,
+      le-ltb _ _ c.if-r-b.false,
+      lt-ltb _ _ c.if-r-p.true,
     )
-    (c.plant-words.ensures ∙ ap plant_words c.before.plant-in.ensures)
+    (c.plant_words.ensures ∙ ap plant_words c.plant_in.ensures)
 
-returns_4 : tie.Need-returns-4
+returns_4 : tie.Need-returns-then-r-k
 unfolding sheet_row
 returns_4 c =
-    let at_else3 = c.before.before.before in
-    let at_else2 = at_else3.before in
-    let at_else1 = at_else2.before in
     rw (
-      le-ltb _ _ at_else1.if1.false,
-      le-ltb _ _ at_else2.if2.false,
-      le-ltb _ _ at_else3.if3.false,
-      lt-ltb _ _ c.before.before.if4.true,
+      le-ltb _ _ c.if-r-a.false,
+      le-ltb _ _ c.if-r-b.false,
+      le-ltb _ _ c.if-r-p.false,
+      lt-ltb _ _ c.if-r-k.true,
     )
-    (c.contract-words.ensures ∙ ap contract_words c.before.contract-in.ensures)
+    (c.contract_words.ensures ∙ ap contract_words c.contract_in.ensures)
 
-returns_5 : tie.Need-returns-5
+returns_5 : tie.Need-returns-else-r-k
 unfolding sheet_row
 returns_5 c =
-    let at_else3 = c.before.before.before in
-    let at_else2 = at_else3.before in
-    let at_else1 = at_else2.before in
-    let e = rw c.before.counts-in.ensures at c.trailer-words.ensures in
+    let e = rw c.counts_in.ensures at c.trailer_words.ensures in
     rw (
-      le-ltb _ _ at_else1.if1.false,
-      le-ltb _ _ at_else2.if2.false,
-      le-ltb _ _ at_else3.if3.false,
-      le-ltb _ _ c.before.before.if4.false,
+      le-ltb _ _ c.if-r-a.false,
+      le-ltb _ _ c.if-r-b.false,
+      le-ltb _ _ c.if-r-p.false,
+      le-ltb _ _ c.if-r-k.false,
     ) e
 
 pub row_words_spec : {M : Type 1} → statement M
 row_words_spec =
     tie.close
-    (tie.spec (λ c. search rules) (λ c. search rules) (λ c. search rules) (λ c κs. search rules)
-    (λ c κs. search rules) (λ c κs. search rules) (λ c κs. search rules) (λ c κs. search rules)
-    (λ c κs. search rules) (λ c κs. search rules) (λ c κs. search rules) (λ c κs. search rules)
-    trailer_words_requires returns returns_2 returns_3 returns_4 returns_5)
+    (tie.spec (λ c. search rules) (λ c. search rules) (λ c. search rules) (λ c κs. search rules) (λ c κs. search rules)
+    (λ c κs. search rules) (λ c κs. search rules) (λ c κs. search rules) (λ c κs. search rules) (λ c κs. search rules)
+    (λ c κs. search rules) (λ c κs. search rules) trailer_words_requires returns returns_2 returns_3 returns_4 returns_5)
