@@ -7,10 +7,9 @@ use Rattle.ground.proofs.admit.Tie as tie
 
 returns : tie.Need-returns
 returns c =
-    let at_room = c.before.before.before.before.before.before in
-    let a = at_room.before.before.before.before.before.args in
+    let a = c.args in
     rw (admission_is a.bytes.now a.c (lent a.figures.now a.money.now a.schedule.now a.amounts.now) _
-    at_room.has_room.ensures) at c.admit-with.ensures
+    c.has_room-room.ensures) at c.admit_with.ensures
 
 pub admit_spec : {M : Type 1} → statement M
 admit_spec = tie.close (tie.spec (λ c κs. search rules) (λ c κs. search rules) returns)

@@ -5,40 +5,34 @@ use Rattle.text.specs.Lines.{line_fault}
 use Rattle.text.proofs.line_fault.Statement.{statement}
 use Rattle.text.proofs.line_fault.Tie as tie
 
-returns : tie.Need-returns
+returns : tie.Need-returns-then-not-known
 unfolding line_fault
-returns c = rw (not-true c.before.args.known c.if1.true)
+returns c = rw (c.if-not-known.true)
 
-returns_2 : tie.Need-returns-2
+returns_2 : tie.Need-returns-then-is_found
 unfolding line_fault
 returns_2 c =
-    let f = c.before in
-    rw (not-false f.before.before.args.known f.before.if1.false, ← f.is_found.ensures, c.if2.true)
+    rw (c.if-not-known.false, ← c.is_found.ensures, c.if-is_found.true)
 
-returns_3 : tie.Need-returns-3
+returns_3 : tie.Need-returns-then-l-eq0
 unfolding line_fault
 returns_3 c =
-    let e = c.before.before in
-    let f = e.before in
     rw (
-      not-false f.before.before.args.known f.before.if1.false,
-      ← f.is_found.ensures,
-      e.if2.false,
-      eq-eqb _ _ c.if3.true,
+      c.if-not-known.false,
+      ← c.is_found.ensures,
+      c.if-is_found.false,
+      eq-eqb _ _ c.if-l-eq0.true,
     )
 
-returns_4 : tie.Need-returns-4
+returns_4 : tie.Need-returns
 unfolding line_fault
 returns_4 c =
-    let u = c.before.before in
-    let e = u.before.before in
-    let f = e.before in
     rw (
-      not-false f.before.before.args.known f.before.if1.false,
-      ← f.is_found.ensures,
-      e.if2.false,
-      ne_eqb _ _ u.if3.false,
-    ) c.count-fault.ensures
+      c.if-not-known.false,
+      ← c.is_found.ensures,
+      c.if-is_found.false,
+      ne_eqb _ _ c.if-l-eq0.false,
+    ) c.count_fault.ensures
 
 pub line_fault_spec : {M : Type 1} → statement M
 line_fault_spec =

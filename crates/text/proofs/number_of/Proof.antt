@@ -3,45 +3,45 @@ use Rattle.text.specs.Faults.{fault_number}
 use Rattle.text.proofs.number_of.Statement.{statement}
 use Rattle.text.proofs.number_of.Tie as tie
 
-returns : tie.Need-returns
+returns : tie.Need-returns-in-None
 unfolding fault_number
-returns c = rw c.enum_told.given.1
+returns c = rw c.in-None.is
 
-returns_2 : tie.Need-returns-2
+returns_2 : tie.Need-returns-in-Word
 unfolding fault_number
-returns_2 c = rw c.enum-told2.given.1
+returns_2 c = rw c.in-Word.is
 
-returns_3 : tie.Need-returns-3
+returns_3 : tie.Need-returns-in-Few
 unfolding fault_number
-returns_3 c = rw c.enum-told3.given.1
+returns_3 c = rw c.in-Few.is
 
-returns_4 : tie.Need-returns-4
+returns_4 : tie.Need-returns-in-Many
 unfolding fault_number
-returns_4 c = rw c.enum-told4.given.1
+returns_4 c = rw c.in-Many.is
 
-returns_5 : tie.Need-returns-5
+returns_5 : tie.Need-returns-in-NotANumber
 unfolding fault_number
-returns_5 c = rw c.enum-told5.given.1
+returns_5 c = rw c.in-NotANumber.is
 
-returns_6 : tie.Need-returns-6
+returns_6 : tie.Need-returns-in-TooLarge
 unfolding fault_number
-returns_6 c = rw c.enum-told6.given.1
+returns_6 c = rw c.in-TooLarge.is
 
-returns_7 : tie.Need-returns-7
+returns_7 : tie.Need-returns-in-Rows
 unfolding fault_number
-returns_7 c = rw c.enum-told7.given.1
+returns_7 c = rw c.in-Rows.is
 
-returns_8 : tie.Need-returns-8
+returns_8 : tie.Need-returns-in-Twice
 unfolding fault_number
-returns_8 c = rw c.enum-told8.given.1
+returns_8 c = rw c.in-Twice.is
 
-returns_9 : tie.Need-returns-9
+returns_9 : tie.Need-returns-in-Missing
 unfolding fault_number
-returns_9 c = rw c.enum-told9.given.1
+returns_9 c = rw c.in-Missing.is
 
 pub number_of_spec : {M : Type 1} → statement M
 number_of_spec =
     tie.close
     (tie.spec (λ c. search rules) (λ c. search rules) (λ c. search rules) (λ c. search rules) (λ c. search rules)
-    (λ c. search rules) (λ c. search rules) (λ c. search rules) (λ c. search rules)
-    returns returns_2 returns_3 returns_4 returns_5 returns_6 returns_7 returns_8 returns_9)
+    (λ c. search rules) (λ c. search rules) (λ c. search rules) (λ c. search rules) returns returns_2 returns_3 returns_4
+    returns_5 returns_6 returns_7 returns_8 returns_9)

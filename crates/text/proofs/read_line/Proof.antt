@@ -4,13 +4,13 @@ use Rattle.text.specs.Lines.{read_line}
 use Rattle.text.proofs.read_line.Statement.{statement}
 use Rattle.text.proofs.read_line.Tie as tie
 
-returns : tie.Need-returns
+returns : tie.Need-returns-then-first_byte-eq35
 unfolding read_line
-returns c = rw (← c.before.before.first_byte.ensures, eq-eqb _ _ c.before.if1.true) c.blank-line.ensures
+returns c = rw (← c.first_byte.ensures, eq-eqb _ _ c.if-first_byte-eq35.true) c.blank_line.ensures
 
-returns_2 : tie.Need-returns-2
+returns_2 : tie.Need-returns-else-first_byte-eq35
 unfolding read_line
-returns_2 c = rw (← c.before.before.first_byte.ensures, ne_eqb _ _ c.before.if1.false) c.read-fields.ensures
+returns_2 c = rw (← c.first_byte.ensures, ne_eqb _ _ c.if-first_byte-eq35.false) c.read_fields.ensures
 
 pub read_line_spec : {M : Type 1} → statement M
 read_line_spec = tie.close (tie.spec (λ c κs. search rules) (λ c κs. search rules) (λ c κs. search rules) returns returns_2)

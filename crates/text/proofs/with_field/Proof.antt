@@ -15,70 +15,56 @@ both r l f e =
     let q : r.count ≡ (step l f).count = ap (λ (x : Line). x.count) e in
     (e, omega (arith, q, step_count l f))
 
-returns : tie.Need-returns
+returns : tie.Need-returns-then-is_found-field
 unfolding step
 returns c =
-    let a = c.before.before.before.args in
-    both a.l a.l a.field.now (rw (← c.before.is_found.ensures, c.if1.true))
+    let a = c.args in
+    both a.l a.l a.field.now (rw (← c.is_found.ensures, c.if-is_found-field.true))
 
-returns_2 : tie.Need-returns-2
+returns_2 : tie.Need-returns-then-l-eq0
 unfolding step
 returns_2 c =
-    let t = c.before.before in
-    let e = t.before.before in
-    let a = e.before.before.before.args in
-    both c.with-word.result a.l a.field.now
-    (rw (← e.before.is_found.ensures, e.if1.false, eq-eqb _ _ t.if2.true)
-    (c.with-word.ensures ∙ ap (named a.l) c.before.word_of.ensures))
+    let a = c.args in
+    both c.with_word.result a.l a.field.now
+    (rw (← c.is_found.ensures, c.if-is_found-field.false, eq-eqb _ _ c.if-l-eq0.true)
+    (c.with_word.ensures ∙ ap (named a.l) c.word_of.ensures))
 
-returns_3 : tie.Need-returns-3
+returns_3 : tie.Need-returns-then-l-lt8
 unfolding step
 returns_3 c =
-    let t = c.before.before in
-    let u = t.before.before in
-    let e = u.before.before in
-    let a = e.before.before.before.args in
+    let a = c.args in
     both c.with_number.result a.l a.field.now
-    (rw (← e.before.is_found.ensures, e.if1.false, ne_eqb _ _ u.if2.false, lt-ltb _ _ t.if3.true)
-    (c.with_number.ensures ∙ ap (numbered a.l) c.before.number.ensures))
+    (rw (← c.is_found.ensures, c.if-is_found-field.false, ne_eqb _ _ c.if-l-eq0.false, lt-ltb _ _ c.if-l-lt8.true)
+    (c.with_number.ensures ∙ ap (numbered a.l) c.number.ensures))
 
-returns_4 : tie.Need-returns-4
+returns_4 : tie.Need-returns-then-l-eq8
 unfolding step
 returns_4 c =
-    let t = c.before.before in
-    let v = t.before.before in
-    let u = v.before.before in
-    let e = u.before.before in
-    let a = e.before.before.before.args in
-    both c.with-money.result a.l a.field.now
+    let a = c.args in
+    both c.with_money.result a.l a.field.now
     (rw (
-      ← e.before.is_found.ensures,
-      e.if1.false,
-      ne_eqb _ _ u.if2.false,
-      le-ltb _ _ v.if3.false,
-      eq-eqb _ _ t.if4.true,
-    ) (c.with-money.ensures ∙ ap (owing a.l) c.before.money.ensures))
+      ← c.is_found.ensures,
+      c.if-is_found-field.false,
+      ne_eqb _ _ c.if-l-eq0.false,
+      le-ltb _ _ c.if-l-lt8.false,
+      eq-eqb _ _ c.if-l-eq8.true,
+    ) (c.with_money.ensures ∙ ap (owing a.l) c.money.ensures))
 
-returns_5 : tie.Need-returns-5
+returns_5 : tie.Need-returns
 unfolding step
 returns_5 c =
-    let t = c.before in
-    let v = t.before.before in
-    let u = v.before.before in
-    let e = u.before.before in
-    let a = e.before.before.before.args in
-    both c.with-one-more.result a.l a.field.now
+    let a = c.args in
+    both c.with_one_more.result a.l a.field.now
     (rw (
-      ← e.before.is_found.ensures,
-      e.if1.false,
-      ne_eqb _ _ u.if2.false,
-      le-ltb _ _ v.if3.false,
-      ne_eqb _ _ t.if4.false,
-    ) c.with-one-more.ensures)
+      ← c.is_found.ensures,
+      c.if-is_found-field.false,
+      ne_eqb _ _ c.if-l-eq0.false,
+      le-ltb _ _ c.if-l-lt8.false,
+      ne_eqb _ _ c.if-l-eq8.false,
+    ) c.with_one_more.ensures)
 
 pub with_field_spec : {M : Type 1} → statement M
 with_field_spec =
     tie.close
-    (tie.spec (λ c κs. search rules) returns (λ c κs. search rules) (λ c κs. search rules) returns_2
-    (λ c κs. search rules) (λ c κs. search rules) returns_3 (λ c κs. search rules) (λ c κs. search rules) returns_4
-    (λ c κs. search rules) returns_5)
+    (tie.spec (λ c κs. search rules) returns (λ c κs. search rules) (λ c κs. search rules) returns_2 (λ c κs. search rules)
+    (λ c κs. search rules) returns_3 (λ c κs. search rules) (λ c κs. search rules) returns_4 (λ c κs. search rules) returns_5)

@@ -3,13 +3,13 @@ use Rattle.text.specs.Lines.{owing}
 use Rattle.text.proofs.with_money.Statement.{statement}
 use Rattle.text.proofs.with_money.Tie as tie
 
-returns : tie.Need-returns
+returns : tie.Need-returns-in-Value
 unfolding owing
-returns c = rw c.before.before.p.given.1 (search rules)
+returns c = rw c.in-Value.is (search rules)
 
-returns_2 : tie.Need-returns-2
+returns_2 : tie.Need-returns-in-Wrong
 unfolding owing
-returns_2 c = rw c.before.before.before.p2.given.1 (search rules)
+returns_2 c = rw c.in-Wrong.is (search rules)
 
 pub with_money_spec : {M : Type 1} → statement M
 with_money_spec =

@@ -4,14 +4,10 @@ use Rattle.sheet.proofs.Accepted.{accepted_few}
 use Rattle.ground.proofs.plants.columns.Statement.{statement}
 use Rattle.ground.proofs.plants.columns.Tie as tie
 
--- ways back: X-to-Y leads from the place X of the code to the earlier place Y
-abbrev known_to_start : tie.After-shared-slice-known → tie.Start
-known_to_start c = c.before
-
 -- no sheet has more plants than an array has cells
 fill_requires : tie.Need-fill-requires
 fill_requires c κs =
-    let e = (known_to_start c.before.before.before.before.before).requires in
+    let e = c.requires in
     let few = (accepted_few _ _ e).plants in (
       e,
       record {

@@ -12,7 +12,7 @@ use Rattle.ground.proofs.Rows.{plant, column_filled}
 use Rattle.ground.proofs.plants.fill.Statement.{statement}
 use Rattle.ground.proofs.plants.fill.Tie as tie
 
-abbrev invariant_loop : tie.invariant-loop
+abbrev invariant_loop : tie.invariant-loop-i
 invariant_loop bytes holders₀ flags₀ musts₀ offers₀ available₀ section n i₀ holders flags musts offers available i =
     (i ≤ n) × Filled 0 holders₀ holders i (λ j. (plant section j).agent)
     × Filled 0 flags₀ flags i (λ j. (plant section j).inflexible)
@@ -20,13 +20,13 @@ invariant_loop bytes holders₀ flags₀ musts₀ offers₀ available₀ section
     × Filled 0 offers₀ offers i (λ j. (plant section j).price)
     × Filled 0 available₀ available i (λ j. (plant section j).availability)
 
-abbrev decreases_loop : tie.decreases-loop
+abbrev decreases_loop : tie.decreases-loop-i
 decreases_loop bytes holders₀ flags₀ musts₀ offers₀ available₀ section n i₀ holders flags musts offers available i = n - i
 
-abbrev section : tie.After-section-of invariant_loop decreases_loop → List ℕ
-section c = c.section-of.result.now
+abbrev section : tie.After-section_of-section invariant_loop decreases_loop → List ℕ
+section c = c.section_of-section.result.now
 
-loop_holds : tie.Need-loop-init invariant_loop decreases_loop
+loop_holds : tie.Need-loop-i-init invariant_loop decreases_loop
 loop_holds c = (
   omega arith,
   filled_none 0 _ _,
@@ -37,30 +37,27 @@ loop_holds c = (
 )
 
 -- the row that was read
-is : (c : tie.After-plant-of invariant_loop decreases_loop)
-    → c.plant-of.result ≡ plant (section c.before.before.before.before) c.before.before.before.loop.i
+is : (c : tie.After-plant_of-p invariant_loop decreases_loop)
+    → c.plant_of-p.result ≡ plant (section c.before.before.before.before) c.loop-i.i
 is c = cc
 
-loop_again : tie.Need-loop-preserved invariant_loop decreases_loop
-loop_again c =
-    let l = c.before.before.before.loop in (
-      omega arith,
-      filled_more 0 _ l.holders l.i _ _ (omega arith) (ap (λ (p : Plant). p.agent) (is c)) l.invariant.1,
-      filled_more 0 _ l.flags l.i _ _ (omega arith) (ap (λ (p : Plant). p.inflexible) (is c)) l.invariant.2,
-      filled_more 0 _ l.musts l.i _ _ (omega arith) (ap (λ (p : Plant). p.must) (is c)) l.invariant.3,
-      filled_more 0 _ l.offers l.i _ _ (omega arith) (ap (λ (p : Plant). p.price) (is c)) l.invariant.4,
-      filled_more 0 _ l.available l.i _ _ (omega arith) (ap (λ (p : Plant). p.availability) (is c)) l.invariant.5,
-    )
+loop_again : tie.Need-loop-i-preserved invariant_loop decreases_loop
+loop_again c = (
+  omega arith,
+  filled_more 0 _ c.loop-i.holders c.loop-i.i _ _ (omega arith) (ap (λ (p : Plant). p.agent) (is c)) c.loop-i.invariant.1,
+  filled_more 0 _ c.loop-i.flags c.loop-i.i _ _ (omega arith) (ap (λ (p : Plant). p.inflexible) (is c)) c.loop-i.invariant.2,
+  filled_more 0 _ c.loop-i.musts c.loop-i.i _ _ (omega arith) (ap (λ (p : Plant). p.must) (is c)) c.loop-i.invariant.3,
+  filled_more 0 _ c.loop-i.offers c.loop-i.i _ _ (omega arith) (ap (λ (p : Plant). p.price) (is c)) c.loop-i.invariant.4,
+  filled_more 0 _ c.loop-i.available c.loop-i.i _ _ (omega arith) (ap (λ (p : Plant). p.availability) (is c)) c.loop-i.invariant.5,
+)
 
 returns : tie.Need-returns invariant_loop decreases_loop
 returns c =
-    let at_section = c.before.before in
-    let at_start = at_section.before.before.before.before.before.before.before in
-    let s = at_start.args.bytes.now in
-    let k = at_start.args.c in
-    let e : c.before.loop.i ≡ k.plants = omega arith in
-    let f = column_filled s k at_start.requires.0 _ at_section.section-of.ensures in
-    let l = c.before.loop.invariant in
+    let s = c.args.bytes.now in
+    let k = c.args.c in
+    let e : c.loop-i.i ≡ k.plants = omega arith in
+    let f = column_filled s k c.requires.0 _ c.section_of-section.ensures in
+    let l = c.loop-i.invariant in
     record {
       holders = f (λ p. p.agent) (columns_of s k).holders (holder_at s k) _ _ (rw e at l.1);
       flags = f (λ p. p.inflexible) (columns_of s k).flags (flag_at s k) _ _ (rw e at l.2);
@@ -73,7 +70,6 @@ pub fill_spec : {M : Type 1} → statement M
 fill_spec =
     tie.close
     (tie.spec invariant_loop decreases_loop (λ c κs. search rules) loop_holds (λ c κs. search rules) (λ c κs. search rules)
-    (λ c. search rules) (λ c. search rules) (λ c. search rules) (λ c. search rules) (λ c. search rules)
-    (λ c. search rules) (λ c. search rules) (λ c. search rules) (λ c. search rules) (λ c. search rules)
-    (λ c. search rules) (λ c. search rules) loop_again (λ c. search rules) (λ c. search rules)
-    (λ c. search rules) (λ c. search rules) (λ c. search rules) returns)
+    (λ c. search rules) (λ c. search rules) (λ c. search rules) (λ c. search rules) (λ c. search rules) (λ c. search rules)
+    (λ c. search rules) (λ c. search rules) (λ c. search rules) (λ c. search rules) (λ c. search rules) (λ c. search rules)
+    loop_again (λ c. search rules) (λ c. search rules) (λ c. search rules) (λ c. search rules) (λ c. search rules) returns)

@@ -13,83 +13,65 @@ use Rattle.ground.proofs.Rows.{plant, Bounded, bounded, column_sum}
 use Rattle.ground.proofs.plants.offered.Statement.{statement}
 use Rattle.ground.proofs.plants.offered.Tie as tie
 
-abbrev invariant_loop : tie.invariant-loop
+abbrev invariant_loop : tie.invariant-loop-i
 invariant_loop bytes section n available₀ must₀ i₀ available must i =
     (i ≤ n) × (available ≡ sum i (λ j. (plant section j).availability)) × (must ≡ sum i (λ j. (plant section j).must))
 
-abbrev decreases_loop : tie.decreases-loop
+abbrev decreases_loop : tie.decreases-loop-i
 decreases_loop bytes section n available₀ must₀ i₀ available must i = n - i
 
-abbrev section_to_start : tie.After-section-of invariant_loop decreases_loop → tie.Start invariant_loop decreases_loop
-section_to_start c = c.before.before
-
-abbrev read_to_loop : tie.After-plant-of invariant_loop decreases_loop → tie.At-loop invariant_loop decreases_loop
-read_to_loop c = c.before.before.before
-
-abbrev read_to_section : tie.After-plant-of invariant_loop decreases_loop → tie.After-section-of invariant_loop decreases_loop
-read_to_section c = (read_to_loop c).before
-
-abbrev row : tie.After-section-of invariant_loop decreases_loop → ℕ → Plant
-row c = plant c.section-of.result.now
+abbrev row : tie.After-section_of-section invariant_loop decreases_loop → ℕ → Plant
+row c = plant c.section_of-section.result.now
 
 -- the row that was read
-is : (c : tie.After-plant-of invariant_loop decreases_loop) → c.plant-of.result ≡ row (read_to_section c) (read_to_loop c).loop.i
+is : (c : tie.After-plant_of-p invariant_loop decreases_loop) → c.plant_of-p.result ≡ row c.before.before.before.before c.loop-i.i
 is c = cc
 
-few : (c : tie.After-section-of invariant_loop decreases_loop) → (section_to_start c).args.c.plants ≤ most_plants
-few c = (accepted_few _ _ (section_to_start c).requires).plants
+few : (c : tie.After-section_of-section invariant_loop decreases_loop) → c.args.c.plants ≤ most_plants
+few c = (accepted_few _ _ c.requires).plants
 
-small : (c : tie.After-section-of invariant_loop decreases_loop) (j : ℕ) → j < (section_to_start c).args.c.plants → Bounded (row c j)
-small c = bounded _ _ (section_to_start c).requires _ c.section-of.ensures
+small : (c : tie.After-section_of-section invariant_loop decreases_loop) (j : ℕ) → j < c.args.c.plants → Bounded (row c j)
+small c = bounded _ _ c.requires _ c.section_of-section.ensures
 
-loop_holds : tie.Need-loop-init invariant_loop decreases_loop
+loop_holds : tie.Need-loop-i-init invariant_loop decreases_loop
 loop_holds c = (search rules, sym (sum_none _), sym (sum_none _))
 
-add_available : tie.Need-overflow-add-available invariant_loop decreases_loop
+add_available : tie.Need-overflow_add-available invariant_loop decreases_loop
 add_available c =
-    let b = read_to_section c.before in
-    let l = (read_to_loop c.before).loop in
     omega (
       arith,
       ap (λ (p : Plant). p.availability) (is c.before),
-      (small b l.i (omega arith)).available,
-      sum_most l.i most_available (λ j. (row b j).availability) (λ j m. (small b j (omega arith)).available),
-      few b,
+      (small c.before.before.before.before.before c.loop-i.i (omega arith)).available,
+      sum_most c.loop-i.i most_available (λ j. (row c.before.before.before.before.before j).availability) (λ j m. (small c.before.before.before.before.before j (omega arith)).available),
+      few c.before.before.before.before.before,
     )
 
-add_must : tie.Need-overflow-add-must invariant_loop decreases_loop
+add_must : tie.Need-overflow_add-must invariant_loop decreases_loop
 add_must c =
-    let b = read_to_section c.before.before in
-    let l = (read_to_loop c.before.before).loop in
     omega (
       arith,
       ap (λ (p : Plant). p.must) (is c.before.before),
-      (small b l.i (omega arith)).must,
-      sum_most l.i most_available (λ j. (row b j).must) (λ j m. (small b j (omega arith)).must),
-      few b,
+      (small c.before.before.before.before.before.before c.loop-i.i (omega arith)).must,
+      sum_most c.loop-i.i most_available (λ j. (row c.before.before.before.before.before.before j).must) (λ j m. (small c.before.before.before.before.before.before j (omega arith)).must),
+      few c.before.before.before.before.before.before,
     )
 
-loop_again : tie.Need-loop-preserved invariant_loop decreases_loop
+loop_again : tie.Need-loop-i-preserved invariant_loop decreases_loop
 loop_again c =
-    let b = read_to_section c.before.before in
-    let l = (read_to_loop c.before.before).loop in
     let p = is c.before.before in (
       search rules,
-      omega (arith, ap (λ (q : Plant). q.availability) p, sum_step l.i (λ j. (row b j).availability)),
-      omega (arith, ap (λ (q : Plant). q.must) p, sum_step l.i (λ j. (row b j).must)),
+      omega (arith, ap (λ (q : Plant). q.availability) p, sum_step c.loop-i.i (λ j. (row c.before.before.before.before.before.before j).availability)),
+      omega (arith, ap (λ (q : Plant). q.must) p, sum_step c.loop-i.i (λ j. (row c.before.before.before.before.before.before j).must)),
     )
 
 returns : tie.Need-returns invariant_loop decreases_loop
 returns c =
-    let at_section = c.before.before in
-    let at_start = at_section.before.before in
-    let s = at_start.args.bytes.now in
-    let k = at_start.args.c in
-    let l = c.before.loop in
-    let e : l.i ≡ k.plants = omega arith in
-    let total = column_sum s k at_start.requires _ at_section.section-of.ensures in (
-      (rw e at l.invariant.1) ∙ total (λ p. p.availability) (columns_of s k).available (available_at s k),
-      (rw e at l.invariant.2) ∙ total (λ p. p.must) (columns_of s k).must_run (must_at s k),
+    let s = c.args.bytes.now in
+    let k = c.args.c in
+    let e : c.loop-i.i ≡ k.plants = omega arith in
+    let total = column_sum s k c.requires _ c.section_of-section.ensures in (
+      (rw e at c.loop-i.invariant.1) ∙ total (λ p. p.availability) (columns_of s k).available (available_at s k),
+      (rw e at c.loop-i.invariant.2) ∙ total (λ p. p.must) (columns_of s k).must_run (must_at s k),
     )
 
 pub offered_spec : {M : Type 1} → statement M

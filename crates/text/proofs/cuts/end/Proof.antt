@@ -13,39 +13,36 @@ use Rattle.text.proofs.cuts.end.Tie as tie
 abbrev test : Bool → ℕ → Bool
 test line = cond line newline separator
 
-abbrev invariant_loop : tie.invariant-loop
+abbrev invariant_loop : tie.invariant-loop-e
 invariant_loop s i line e₀ e =
     (i ≤ e) × (e ≤ max i (length s))
     × (cut (test line) [] (drop i s) ≡ cut (test line) (take (e - i) (drop i s)) (drop e s))
 
-abbrev decreases_loop : tie.decreases-loop
+abbrev decreases_loop : tie.decreases-loop-e
 decreases_loop s i line e₀ e = length s - e
 
-loop_holds : tie.Need-loop-init invariant_loop decreases_loop
+loop_holds : tie.Need-loop-e-init invariant_loop decreases_loop
 loop_holds c =
-    let a = c.before.args in
+    let a = c.args in
     (omega arith, omega arith, laws.cut_start (test a.line) a.s.now a.i)
 
-returns : tie.Need-returns invariant_loop decreases_loop
+returns : tie.Need-returns-then-stops invariant_loop decreases_loop
 returns c =
-    let b = c.before.before.before.before.loop in
-    let q = c.before.stops.ensures in
+    let q = c.stops.ensures in
     record {
       low = omega arith;
       high = omega arith;
-      cuts = b.invariant.2 ∙ laws.cut_stop _ _ _ b.e (omega arith) (sym q ∙ c.if1.true);
+      cuts = c.loop-e.invariant.2 ∙ laws.cut_stop _ _ _ c.loop-e.e (omega arith) (sym q ∙ c.if-stops.true);
     }
 
-loop_again : tie.Need-loop-preserved invariant_loop decreases_loop
+loop_again : tie.Need-loop-e-preserved invariant_loop decreases_loop
 loop_again c =
-    let b = c.before.before.before.before.loop in
-    let q = c.before.stops.ensures in
-    (omega arith, omega arith, b.invariant.2 ∙ laws.cut_go _ _ _ b.e (omega arith) (omega arith) (sym q ∙ c.if1.false))
+    let q = c.stops.ensures in
+    (omega arith, omega arith, c.loop-e.invariant.2 ∙ laws.cut_go _ _ _ c.loop-e.e (omega arith) (omega arith) (sym q ∙ c.if-stops.false))
 
-returns_2 : tie.Need-returns-2 invariant_loop decreases_loop
+returns_2 : tie.Need-returns invariant_loop decreases_loop
 returns_2 c =
-    let b = c.before.loop in
-    record { low = omega arith; high = omega arith; cuts = b.invariant.2 ∙ laws.cut_end _ _ _ b.e (omega arith) }
+    record { low = omega arith; high = omega arith; cuts = c.loop-e.invariant.2 ∙ laws.cut_end _ _ _ c.loop-e.e (omega arith) }
 
 pub end_spec : {M : Type 1} → statement M
 end_spec =

@@ -8,7 +8,7 @@ use Rattle.text.proofs.numbers.number.Tie as tie
 returns : tie.Need-returns
 unfolding parsed
 returns c =
-    let d = c.before.digits.ensures in
+    let d = c.digits-d.ensures in
     c.parse.ensures ∙ ap₂ parsed_as d.0 d.1 ∙ parsed_held _ _
 
 pub number_spec : {M : Type 1} → statement M

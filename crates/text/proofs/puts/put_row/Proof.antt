@@ -10,17 +10,14 @@ use Rattle.text.proofs.puts.put_row.Tie as tie
 returns : tie.Need-returns
 unfolding row_text
 returns c =
-    let w = c.before.before in
-    let j = w.before.before.before.before in
-    let b = j.before.before.before.before in
-    let a = b.before.before.before.before.before.args in
-    let kb = b.byte.auto.0 in
-    let kj = j.put-joined.auto.0 in
+    let a = c.args in
+    let kb = c.byte-i.auto.s in
+    let kj = c.put_joined-j.auto.s in
     record {
       put = λ p q.
-          let x = b.byte.ensures.put (omega (arith, p)) q in
-          let y = j.put-joined.ensures.put (omega (arith, p, x.low)) (omega (arith, q, x.high, kb)) in
-          let z = w.word.ensures.put (omega (arith, p, x.low, y.low)) (omega (arith, q, x.high, y.high, kb, kj)) in
+          let x = c.byte-i.ensures.put (omega (arith, p)) q in
+          let y = c.put_joined-j.ensures.put (omega (arith, p, x.low)) (omega (arith, q, x.high, kb)) in
+          let z = c.word.ensures.put (omega (arith, p, x.low, y.low)) (omega (arith, q, x.high, y.high, kb, kj)) in
           record {
             text_is =
                 z.text_is
