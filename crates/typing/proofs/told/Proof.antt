@@ -2,11 +2,11 @@ use borrow.Author.Rules.{rules}
 use Rattle.typing.proofs.told.Statement.{statement}
 use Rattle.typing.proofs.told.Tie as tie
 
-returns : tie.Need-returns
-returns c = rw c.before.w.given.1
+returns : tie.Need-returns-in-Done
+returns c = rw c.in-Done.is
 
-returns_2 : tie.Need-returns-2
-returns_2 c = rw (c.before.before.w2.given.1, c.refused-line.ensures)
+returns_2 : tie.Need-returns-in-Refused
+returns_2 c = rw (c.in-Refused.is, c.refused_line.ensures)
 
 pub told_spec : {M : Type 1} → statement M
 told_spec =

@@ -7,44 +7,29 @@ use Rattle.typing.proofs.Making.{fronts_made}
 use Rattle.typing.proofs.write_fronts.Statement.{statement}
 use Rattle.typing.proofs.write_fronts.Tie as tie
 
--- ways back: X-to-Y leads from the place X of the code to the earlier place Y
-abbrev write1_to_start : tie.After-write-arg → tie.Start
-write1_to_start c = c.before.before.before.before.before.before.before
-
-abbrev write2_to_start : tie.After-write-arg2 → tie.Start
-write2_to_start c = write1_to_start c.before.before
-
-abbrev write3_to_start : tie.After-write-arg3 → tie.Start
-write3_to_start c = write2_to_start c.before.before
-
-abbrev write4_to_start : tie.After-write-arg4 → tie.Start
-write4_to_start c = write3_to_start c.before.before
-
 -- each list is long enough
-slice_aggregate_write : tie.Need-slice-aggregate-write
+slice_aggregate_write : tie.Need-slice_bounds-write-end
 slice_aggregate_write c =
-    let b = write1_to_start c in sym (length-take-le b.args.c.agents b.args.agents.now b.pre.few_agents)
+    sym (length-take-le c.args.c.agents c.args.agents.now c.requires.few_agents)
 
-slice_aggregate_write_2 : tie.Need-slice-aggregate-write-2
+slice_aggregate_write_2 : tie.Need-slice_bounds-write-end-2
 slice_aggregate_write_2 c =
-    let b = write2_to_start c in sym (length-take-le (4 * b.args.c.boundaries) b.args.boundaries.now b.pre.few_boundaries)
+    sym (length-take-le (4 * c.args.c.boundaries) c.args.boundaries.now c.requires.few_boundaries)
 
-slice_aggregate_write_3 : tie.Need-slice-aggregate-write-3
+slice_aggregate_write_3 : tie.Need-slice_bounds-write-end-3
 slice_aggregate_write_3 c =
-    let b = write3_to_start c in sym (length-take-le (5 * b.args.c.plants) b.args.plants.now b.pre.few_plants)
+    sym (length-take-le (5 * c.args.c.plants) c.args.plants.now c.requires.few_plants)
 
-slice_aggregate_write_4 : tie.Need-slice-aggregate-write-4
+slice_aggregate_write_4 : tie.Need-slice_bounds-write-end-4
 slice_aggregate_write_4 c =
-    let b = write4_to_start c in sym (length-take-le (5 * b.args.c.contracts) b.args.contracts.now b.pre.few_contracts)
+    sym (length-take-le (5 * c.args.c.contracts) c.args.contracts.now c.requires.few_contracts)
 
 returns : tie.Need-returns
 returns c =
-    let w = c.before.before.before in
-    let b = write4_to_start w.before.before in
-    let a = b.args in
+    let a = c.args in
     fronts_made a.text.now a.out.now a.c
     (numbers a.agents.now a.boundaries.now a.plants.now a.contracts.now)
-    b.pre w.write.ensures c.told.ensures
+    c.requires c.write-w.ensures c.told.ensures
 
 pub write_fronts_spec : {M : Type 1} → statement M
 write_fronts_spec =

@@ -12,63 +12,53 @@ use Rattle.typing.proofs.Gathering as laws
 use Rattle.typing.proofs.gather.gather.Statement.{statement}
 use Rattle.typing.proofs.gather.gather.Tie as tie
 
-abbrev invariant_loop : tie.invariant-loop
+abbrev invariant_loop : tie.invariant-loop-i
 invariant_loop s out₀ section k₀ i₀ out k i =
     (i ≤ length s + 1) × (k ≤ length out) × (length out ≡ length out₀) × (drop k out ≡ drop k out₀)
     × (listed section s ≡ over (gather_line section) (take k out) (from newline s i))
 
-abbrev decreases_loop : tie.decreases-loop
+abbrev decreases_loop : tie.decreases-loop-i
 decreases_loop s out₀ section k₀ i₀ out k i = length s + 1 - i
 
-loop_holds : tie.Need-loop-init invariant_loop decreases_loop
+loop_holds : tie.Need-loop-i-init invariant_loop decreases_loop
 unfolding listed
 loop_holds c =
-    let a = c.before.before.args in
+    let a = c.args in
     (omega arith, omega arith, refl, refl, walk.over_start (gather_line a.section) [] newline a.s.now)
 
 -- the list with this line's row is no longer than the whole
-gather_line_requires : tie.Need-gather-line-requires invariant_loop decreases_loop
+gather_line_requires : tie.Need-gather_line-k-requires invariant_loop decreases_loop
 gather_line_requires c κs =
-    let p = c.before.before in
-    let e = p.line-end in
-    let b = p.before.before.loop in
-    let d = p.before.before.before.before.before in
-    let a = d.args in
+    let a = c.args in
     let s = a.s.now in
     let g = gather_line a.section in
-    let x = take (e.result - b.i) (drop b.i s) in
-    let n = walk.over_next g (take b.k b.out) newline s b.i e.result (omega arith) e.ensures.cuts in
-    let h = laws.over_grows a.section (g (take b.k b.out) x) (from newline s (e.result + 1)) in
-    let q = ap (length {A = ℕ}) (b.invariant.4 ∙ n) in
-    (b.invariant.1, omega (arith, h, q, d.requires, b.invariant.2))
+    let x = take (c.line_end-e.result - c.loop-i.i) (drop c.loop-i.i s) in
+    let n = walk.over_next g (take c.loop-i.k c.loop-i.out) newline s c.loop-i.i c.line_end-e.result (omega arith) c.line_end-e.ensures.cuts in
+    let h = laws.over_grows a.section (g (take c.loop-i.k c.loop-i.out) x) (from newline s (c.line_end-e.result + 1)) in
+    let q = ap (length {A = ℕ}) (c.loop-i.invariant.4 ∙ n) in
+    (c.loop-i.invariant.1, omega (arith, h, q, c.requires, c.loop-i.invariant.2))
 
-loop_again : tie.Need-loop-preserved invariant_loop decreases_loop
+loop_again : tie.Need-loop-i-preserved invariant_loop decreases_loop
 loop_again c =
-    let r = c.before.before in
-    let p = r.before.before.before in
-    let e = p.line-end in
-    let b = p.before.before.loop in
-    let a = p.before.before.before.before.before.args in
+    let a = c.args in
     let s = a.s.now in
     let g = gather_line a.section in
-    let n = walk.over_next g (take b.k b.out) newline s b.i e.result (omega arith) e.ensures.cuts in
-    let y = r.gather-line in (
+    let n = walk.over_next g (take c.loop-i.k c.loop-i.out) newline s c.loop-i.i c.line_end-e.result (omega arith) c.line_end-e.ensures.cuts in (
       omega arith,
-      y.ensures.3,
-      y.auto.1.0 ∙ b.invariant.2,
-      y.ensures.1 ∙ laws.drop_later b.out a.out.now b.k y.result y.ensures.2 b.invariant.3,
-      b.invariant.4 ∙ n ∙ ap (λ (l : List ℕ). over g l (from newline s (e.result + 1))) (sym y.ensures.0),
+      c.gather_line-k.ensures.3,
+      c.gather_line-k.auto.out ∙ c.loop-i.invariant.2,
+      c.gather_line-k.ensures.1 ∙ laws.drop_later c.loop-i.out a.out.now c.loop-i.k c.gather_line-k.result c.gather_line-k.ensures.2 c.loop-i.invariant.3,
+      c.loop-i.invariant.4 ∙ n ∙ ap (λ (l : List ℕ). over g l (from newline s (c.line_end-e.result + 1))) (sym c.gather_line-k.ensures.0),
     )
 
 returns : tie.Need-returns invariant_loop decreases_loop
 returns c =
-    let b = c.before.loop in
-    let a = c.before.before.before.before.args in
-    let t = b.invariant.4 ∙ walk.over_end (gather_line a.section) (take b.k b.out) newline a.s.now b.i (omega arith) in
-    laws.front_filled (listed a.section a.s.now) b.out a.out.now b.k t b.invariant.1 b.invariant.3 b.invariant.2
+    let a = c.args in
+    let t = c.loop-i.invariant.4 ∙ walk.over_end (gather_line a.section) (take c.loop-i.k c.loop-i.out) newline a.s.now c.loop-i.i (omega arith) in
+    laws.front_filled (listed a.section a.s.now) c.loop-i.out a.out.now c.loop-i.k t c.loop-i.invariant.1 c.loop-i.invariant.3 c.loop-i.invariant.2
 
 pub gather_spec : {M : Type 1} → statement M
 gather_spec =
     tie.close
-    (tie.spec invariant_loop decreases_loop loop_holds (λ c κs. search rules) (λ c. omega arith) (λ c. search rules) (λ c. search rules)
-    gather_line_requires (λ c. omega arith) (λ c. omega arith) loop_again (λ c. c.before.loop.invariant.2) returns)
+    (tie.spec invariant_loop decreases_loop loop_holds (λ c κs. search rules) (λ c. omega arith) (λ c. search rules)
+    (λ c. search rules) gather_line_requires (λ c. omega arith) (λ c. omega arith) loop_again (λ c. c.loop-i.invariant.2) returns)

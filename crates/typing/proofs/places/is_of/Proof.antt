@@ -7,8 +7,7 @@ use Rattle.typing.proofs.places.is_of.Tie as tie
 
 returns : tie.Need-returns
 returns c =
-    let r = c.before in
-    ap (λ (l : Line). eqb l.word r.before.before.args.section) r.read-line.ensures
+    ap (λ (l : Line). eqb l.word c.args.section) c.read_line.ensures
 
 pub is_of_spec : {M : Type 1} → statement M
 is_of_spec = tie.close (tie.spec (λ c κs. search rules) returns)

@@ -8,20 +8,19 @@ use Rattle.typing.proofs.places.refused_line.Statement.{statement}
 use Rattle.typing.proofs.places.refused_line.Tie as tie
 
 -- the number is 3 at least
-sub_line_of_row : tie.Need-overflow-sub-line-of-row
+sub_line_of_row : tie.Need-overflow_sub-r
 sub_line_of_row c =
-    let t = c.before in
-    let n = t.before.before.before.before.args.r.number in
-    let h = leb-true 3 n (and_left (leb 3 n) (leb n 6) t.if1.true) in
+    let n = c.args.r.number in
+    let h = leb-true 3 n (and_left (leb 3 n) (leb n 6) c.if-r.true) in
     omega (arith, h)
 
-returns : tie.Need-returns
+returns : tie.Need-returns-then-r
 unfolding refused_line
-returns c = let t = c.before.before.before in rw t.if1.true c.line-of-row.ensures
+returns c = rw c.if-r.true c.line_of_row.ensures
 
-returns_2 : tie.Need-returns-2
+returns_2 : tie.Need-returns-else-r
 unfolding refused_line
-returns_2 c = rw c.if1.false
+returns_2 c = rw c.if-r.false
 
 pub refused_line_spec : {M : Type 1} → statement M
 refused_line_spec =

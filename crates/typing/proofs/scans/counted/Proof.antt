@@ -6,12 +6,11 @@ use Rattle.typing.proofs.scans.counted.Tie as tie
 returns : tie.Need-returns
 unfolding counted_in
 returns c =
-    let d = c.before.before.before.before in
     rw (
-      d.before.before.before.one-if.ensures.0,
-      d.before.before.one-if2.ensures.0,
-      d.before.one-if3.ensures.0,
-      d.one-if4.ensures.0,
+      c.one_if-a.ensures.0,
+      c.one_if-b.ensures.0,
+      c.one_if-p.ensures.0,
+      c.one_if-d.ensures.0,
     )
 
 pub counted_spec : {M : Type 1} → statement M

@@ -3,15 +3,14 @@ use Rattle.typing.specs.Rows.{scan_line}
 use Rattle.typing.proofs.scans.scan_line.Statement.{statement}
 use Rattle.typing.proofs.scans.scan_line.Tie as tie
 
-returns : tie.Need-returns
+returns : tie.Need-returns-then-is_found
 unfolding scan_line
-returns c = rw (← c.before.is_found.ensures, c.if1.true)
+returns c = rw (← c.is_found.ensures, c.if-is_found.true)
 
-returns_2 : tie.Need-returns-2
+returns_2 : tie.Need-returns
 unfolding scan_line
 returns_2 c =
-    let e = c.before.before in
-    rw (← e.before.is_found.ensures, e.if1.false, ← c.before.read-line.ensures) c.scan-row.ensures
+    rw (← c.is_found.ensures, c.if-is_found.false, ← c.read_line.ensures) c.scan_row.ensures
 
 pub scan_line_spec : {M : Type 1} → statement M
 scan_line_spec =

@@ -4,27 +4,27 @@ use Rattle.typing.specs.Rows.{wants}
 use Rattle.typing.proofs.scans.wanted.Statement.{statement}
 use Rattle.typing.proofs.scans.wanted.Tie as tie
 
-returns : tie.Need-returns
+returns : tie.Need-returns-in-1
 unfolding wants
-returns c = rw c.match.keys1 (omega arith)
+returns c = rw c.in-1.is (omega arith)
 
-returns_2 : tie.Need-returns-2
+returns_2 : tie.Need-returns-in-2
 unfolding wants
-returns_2 c = rw c.match.keys2 (omega arith)
+returns_2 c = rw c.in-2.is (omega arith)
 
-returns_3 : tie.Need-returns-3
+returns_3 : tie.Need-returns-in-3
 unfolding wants
-returns_3 c = rw c.match.keys3 (omega arith)
+returns_3 c = rw c.in-3.is (omega arith)
 
-returns_4 : tie.Need-returns-4
+returns_4 : tie.Need-returns-in-4
 unfolding wants
-returns_4 c = rw c.match.keys4 (omega arith)
+returns_4 c = rw c.in-4.is (omega arith)
 
-returns_5 : tie.Need-returns-5
+returns_5 : tie.Need-returns-in_default
 unfolding wants
 returns_5 c =
-    let r = c.match.rest in
-    let k = c.before.args.k in
+    let r = c.in_default.in_default-own.rest in
+    let k = c.args.k in
     rw (ne_eqb k 1 r.0.0.0.1, ne_eqb k 2 r.0.0.1, ne_eqb k 3 r.0.1, ne_eqb k 4 r.1) (omega arith)
 
 pub wanted_spec : {M : Type 1} → statement M

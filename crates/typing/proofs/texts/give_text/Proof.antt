@@ -5,9 +5,7 @@ use Rattle.typing.proofs.texts.give_text.Tie as tie
 
 returns : tie.Need-returns
 returns c =
-    let g = c.before.before in
-    let p = g.before.before.before.before in
-    prints_text p.put-text.ensures g.give.ensures
+    prints_text c.put_text-from.ensures c.give.ensures
 
 pub give_text_spec : {M : Type 1} → statement M
 give_text_spec =

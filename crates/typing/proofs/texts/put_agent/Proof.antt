@@ -17,16 +17,14 @@ use Rattle.typing.proofs.texts.put_agent.Tie as tie
 returns : tie.Need-returns
 unfolding word_for row_typed
 returns c =
-    let p = c.before.before in
-    let g = p.before.before.before.before in
-    let a = g.before.before.args in
+    let a = c.args in
     let rest = drop a.at a.s.now in
     let row : Agent → List ℕ = λ x. row_text agent_word (x.kind ∷ []) rest in
-    let x : PutInRoom (row g.agent-of.result) a.s.now p.put-row.new.0 a.at 27
-    p.put-row.result = p.put-row.ensures in
-    roomier x (row_text (word_for 1) (row_typed 1 a.w) rest) row_room (omega arith) (ap row g.agent-of.ensures)
+    let x : PutInRoom (row c.agent_of-a.result) a.s.now c.put_row.new.s a.at 27
+    c.put_row.result = c.put_row.ensures in
+    roomier x (row_text (word_for 1) (row_typed 1 a.w) rest) row_room (omega arith) (ap row c.agent_of-a.ensures)
 
 pub put_agent_spec : {M : Type 1} → statement M
 put_agent_spec =
     tie.close
-    (tie.spec (λ c κs. search rules) (λ c. search rules) (λ c. search rules) (λ c κs. search rules) (λ c. search rules) returns)
+    (tie.spec (λ c κs. search rules) (λ c. search rules) (λ c κs. search rules) (λ c. search rules) returns)

@@ -17,16 +17,14 @@ use Rattle.typing.proofs.texts.put_boundary.Tie as tie
 returns : tie.Need-returns
 unfolding word_for row_typed
 returns c =
-    let p = c.before.before in
-    let g = p.before.before.before.before in
-    let a = g.before.before.args in
+    let a = c.args in
     let rest = drop a.at a.s.now in
     let row : Boundary → List ℕ = λ x. row_text boundary_word (x.agent ∷ x.factor ∷ x.import ∷ x.export ∷ []) rest in
-    let x : PutInRoom (row g.boundary-of.result) a.s.now p.put-row.new.0 a.at 93
-    p.put-row.result = p.put-row.ensures in
-    roomier x (row_text (word_for 2) (row_typed 2 a.w) rest) row_room (omega arith) (ap row g.boundary-of.ensures)
+    let x : PutInRoom (row c.boundary_of-b.result) a.s.now c.put_row.new.s a.at 93
+    c.put_row.result = c.put_row.ensures in
+    roomier x (row_text (word_for 2) (row_typed 2 a.w) rest) row_room (omega arith) (ap row c.boundary_of-b.ensures)
 
 pub put_boundary_spec : {M : Type 1} → statement M
 put_boundary_spec =
     tie.close
-    (tie.spec (λ c κs. search rules) (λ c. search rules) (λ c. search rules) (λ c κs. search rules) (λ c. search rules) returns)
+    (tie.spec (λ c κs. search rules) (λ c. search rules) (λ c κs. search rules) (λ c. search rules) returns)

@@ -17,16 +17,14 @@ use Rattle.typing.proofs.texts.put_contract.Tie as tie
 returns : tie.Need-returns
 unfolding word_for row_typed
 returns c =
-    let p = c.before.before in
-    let g = p.before.before.before.before in
-    let a = g.before.before.args in
+    let a = c.args in
     let rest = drop a.at a.s.now in
     let row : Contract → List ℕ = λ x. row_text contract_word (x.seller ∷ x.buyer ∷ x.kind ∷ x.price ∷ x.quantity ∷ []) rest in
-    let x : PutInRoom (row g.contract-of.result) a.s.now p.put-row.new.0 a.at row_room
-    p.put-row.result = p.put-row.ensures in
-    roomier x (row_text (word_for 4) (row_typed 4 a.w) rest) row_room (omega arith) (ap row g.contract-of.ensures)
+    let x : PutInRoom (row c.contract_of-c.result) a.s.now c.put_row.new.s a.at row_room
+    c.put_row.result = c.put_row.ensures in
+    roomier x (row_text (word_for 4) (row_typed 4 a.w) rest) row_room (omega arith) (ap row c.contract_of-c.ensures)
 
 pub put_contract_spec : {M : Type 1} → statement M
 put_contract_spec =
     tie.close
-    (tie.spec (λ c κs. search rules) (λ c. search rules) (λ c. search rules) (λ c κs. search rules) (λ c. search rules) returns)
+    (tie.spec (λ c κs. search rules) (λ c. search rules) (λ c κs. search rules) (λ c. search rules) returns)

@@ -17,16 +17,14 @@ use Rattle.typing.proofs.texts.put_plant.Tie as tie
 returns : tie.Need-returns
 unfolding word_for row_typed
 returns c =
-    let p = c.before.before in
-    let g = p.before.before.before.before in
-    let a = g.before.before.args in
+    let a = c.args in
     let rest = drop a.at a.s.now in
     let row : Plant → List ℕ = λ x. row_text plant_word (x.agent ∷ x.inflexible ∷ x.must ∷ x.price ∷ x.availability ∷ []) rest in
-    let x : PutInRoom (row g.plant-of.result) a.s.now p.put-row.new.0 a.at 111
-    p.put-row.result = p.put-row.ensures in
-    roomier x (row_text (word_for 3) (row_typed 3 a.w) rest) row_room (omega arith) (ap row g.plant-of.ensures)
+    let x : PutInRoom (row c.plant_of-p.result) a.s.now c.put_row.new.s a.at 111
+    c.put_row.result = c.put_row.ensures in
+    roomier x (row_text (word_for 3) (row_typed 3 a.w) rest) row_room (omega arith) (ap row c.plant_of-p.ensures)
 
 pub put_plant_spec : {M : Type 1} → statement M
 put_plant_spec =
     tie.close
-    (tie.spec (λ c κs. search rules) (λ c. search rules) (λ c. search rules) (λ c κs. search rules) (λ c. search rules) returns)
+    (tie.spec (λ c κs. search rules) (λ c. search rules) (λ c κs. search rules) (λ c. search rules) returns)

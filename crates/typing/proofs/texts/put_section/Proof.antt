@@ -24,49 +24,43 @@ record Going (g : ℕ → List ℕ → List ℕ) (s₀ s : List ℕ) (at n i lef
   high : i ≤ at
   text : lines_to g n (drop at s₀) ≡ lines_to g left (drop i s)
 
-abbrev invariant_loop : tie.invariant-loop
+abbrev invariant_loop : tie.invariant-loop-left
 invariant_loop s₀ at sheet k start n i₀ left₀ s i left =
     (left ≤ n) × (length s ≡ length s₀) × (row_room * n ≤ at → at ≤ length s₀ → Going (row_at k sheet start) s₀ s at n i left)
 
-abbrev decreases_loop : tie.decreases-loop
+abbrev decreases_loop : tie.decreases-loop-left
 decreases_loop s₀ at sheet k start n i₀ left₀ s i left = left
 
-loop_holds : tie.Need-loop-init invariant_loop decreases_loop
+loop_holds : tie.Need-loop-left-init invariant_loop decreases_loop
 loop_holds c = (omega arith, refl, λ p q. record { low = omega arith; high = omega arith; text = refl })
 
-loop_again : tie.Need-loop-preserved invariant_loop decreases_loop
+loop_again : tie.Need-loop-left-preserved invariant_loop decreases_loop
 loop_again c =
-    let n = c.before.before in
-    let r = n.before in
-    let t = r.before.before in
-    let b = t.before.loop in
-    let a = t.before.before.before.before.args in
+    let a = c.args in
     let g = row_at a.k a.sheet.now a.start in
-    let u = n.put-line in
-    let z : length b.s ≡ length a.s.now = b.invariant.1 in (
+    let z : length c.loop-left.s ≡ length a.s.now = c.loop-left.invariant.1 in (
       omega arith,
-      u.auto.0 ∙ z,
+      c.put_line-i.auto.s ∙ z,
       λ p q.
-          let f = b.invariant.2 p q in
-          let w = u.ensures.put (omega (arith, f.low, p, t.loop-test.true)) (omega (arith, f.high, q, z)) in
-          let e = w.text_is ∙ ap (λ (x : Words). row_text (word_for a.k) (row_typed a.k x) (drop b.i b.s)) r.row_at_lem.ensures in
+          let f = c.loop-left.invariant.2 p q in
+          let w = c.put_line-i.ensures.put (omega (arith, f.low, p, c.loop-left-test.true)) (omega (arith, f.high, q, z)) in
+          let e = w.text_is ∙ ap (λ (x : Words). row_text (word_for a.k) (row_typed a.k x) (drop c.loop-left.i c.loop-left.s)) c.row_at.ensures in
           record {
             low = omega (arith, f.low, w.low);
             high = omega (arith, f.high, w.high);
-            text = f.text ∙ lines_more g b.left (drop b.i b.s) t.loop-test.true ∙ ap (lines_to g (b.left - 1)) (sym e);
+            text = f.text ∙ lines_more g c.loop-left.left (drop c.loop-left.i c.loop-left.s) c.loop-left-test.true ∙ ap (lines_to g (c.loop-left.left - 1)) (sym e);
           },
     )
 
 returns : tie.Need-returns invariant_loop decreases_loop
 returns c =
-    let b = c.before.loop in
-    let a = c.before.before.before.before.args in
+    let a = c.args in
     record {
       put = λ p q.
-          let f = b.invariant.2 p q in
-          let e : b.left ≤ 0 = omega arith in
+          let f = c.loop-left.invariant.2 p q in
+          let e : c.loop-left.left ≤ 0 = omega arith in
           record {
-            text_is = sym (f.text ∙ lines_none (row_at a.k a.sheet.now a.start) b.left (drop b.i b.s) e);
+            text_is = sym (f.text ∙ lines_none (row_at a.k a.sheet.now a.start) c.loop-left.left (drop c.loop-left.i c.loop-left.s) e);
             low = omega (arith, f.low, e);
             high = f.high;
           };
@@ -75,5 +69,5 @@ returns c =
 pub put_section_spec : {M : Type 1} → statement M
 put_section_spec =
     tie.close
-    (tie.spec invariant_loop decreases_loop loop_holds (λ c. omega arith) (λ c. omega arith) (λ c κs. search rules) (λ c κs. search rules)
-    (λ c. omega arith) loop_again (λ c. c.before.loop.invariant.1) returns)
+    (tie.spec invariant_loop decreases_loop loop_holds (λ c. omega arith) (λ c. omega arith) (λ c κs. search rules)
+    (λ c κs. search rules) (λ c. omega arith) loop_again (λ c. c.loop-left.invariant.1) returns)
