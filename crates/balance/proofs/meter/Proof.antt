@@ -30,6 +30,13 @@ invariant_loop s imports₀ exports₀ section n j₀ imports exports j =
 abbrev decreases_loop : tie.decreases-loop-j
 decreases_loop s imports₀ exports₀ section n j₀ imports exports j = n - j
 
+-- ways back: X_to_Y leads from the place X of the code to the earlier place Y
+abbrev add_reading_arg_in_loop_j_1_to_boundary_of_b : tie.After-add_reading-arg-in-loop-j-1 invariant_loop decreases_loop → tie.After-boundary_of-b invariant_loop decreases_loop
+add_reading_arg_in_loop_j_1_to_boundary_of_b c = c.before.before.before.before.before.before
+
+abbrev slice_known_in_loop_j_2_1_to_boundary_of_b : tie.After-slice_known-in-loop-j-2-1 invariant_loop decreases_loop → tie.After-boundary_of-b invariant_loop decreases_loop
+slice_known_in_loop_j_2_1_to_boundary_of_b c = c.before.before.before.before.before.before.before.before.before
+
 -- the row that was read
 is : (c : tie.After-boundary_of-b invariant_loop decreases_loop)
     → c.boundary_of-b.result ≡ row c.section_of-section.result.now
@@ -74,10 +81,10 @@ add_reading_requires c κs =
 
 add_reading_requires_2 : tie.Need-add_reading-requires-in-loop-j invariant_loop decreases_loop
 add_reading_requires_2 c κs =
-    let g = good c.before.before.before.before.before.before in
+    let g = good (add_reading_arg_in_loop_j_1_to_boundary_of_b c) in
     let most = given_most _ _ c.requires.0 _ c.section_of-section.ensures c.loop-j.j
     c.boundary_of-b.result.agent (omega arith) in
-    let room = cell c.before.before.before.before.before.before c.loop-j.exports _ c.loop-j.invariant.2 (c.loop-j.invariant.4 c.boundary_of-b.result.agent g.there) most in
+    let room = cell (add_reading_arg_in_loop_j_1_to_boundary_of_b c) c.loop-j.exports _ c.loop-j.invariant.2 (c.loop-j.invariant.4 c.boundary_of-b.result.agent g.there) most in
     (room.0, room.1, g.export, g.factor)
 
 add_j : tie.Need-overflow_add-j invariant_loop decreases_loop
@@ -99,9 +106,9 @@ added key v m l l' k w p q h e n sums =
 
 loop_again : tie.Need-loop-j-preserved invariant_loop decreases_loop
 loop_again c =
-    let b = is c.before.before.before.before.before.before.before.before.before in
+    let b = is (slice_known_in_loop_j_2_1_to_boundary_of_b c) in
     let k = ap (λ (x : Boundary). x.agent) b in
-    let there = (good c.before.before.before.before.before.before.before.before.before).there in
+    let there = (good (slice_known_in_loop_j_2_1_to_boundary_of_b c)).there in
     let taken_is = ap (λ (x : Boundary). referred x.import x.factor) b in
     let given_is = ap (λ (x : Boundary). referred x.export x.factor) b in
     let taken_more = added (owner _) (taken _) c.loop-j.j c.loop-j.imports _ _ _ k taken_is there

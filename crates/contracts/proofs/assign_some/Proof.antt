@@ -8,6 +8,13 @@ use Rattle.contracts.proofs.Uncut.{cut_full}
 use Rattle.contracts.proofs.assign_some.Statement.{statement}
 use Rattle.contracts.proofs.assign_some.Tie as tie
 
+-- ways back: X_to_Y leads from the place X of the code to the earlier place Y
+abbrev part_arg_2_1_to_start : tie.After-part-arg-2-1 → tie.Start
+part_arg_2_1_to_start c = c.before.before.before.before.before.before.before.before
+
+abbrev serve_all_arg_1_to_start : tie.After-serve_all-arg-1 → tie.Start
+serve_all_arg_1_to_start c = part_arg_2_1_to_start c.before.before.before.before.before.before.before.before
+
 -- a cell a buyer
 cells : (c : tie.Start) → length c.args.next.now ≡ length c.args.demands.now
 cells c = c.requires.1.1.long
@@ -16,17 +23,17 @@ part_requires : tie.Need-part-requires
 part_requires c κs =
     let cuts = c.requires.1.0 in (
       (omega arith, c.requires.0.1),
-      (cuts.long, rw (cells c.before.before.before.before.before.before.before.before) (bounded _ _ c.requires.0.0), rw (cells c.before.before.before.before.before.before.before.before) c.requires.1.1),
+      (cuts.long, rw (cells (part_arg_2_1_to_start c)) (bounded _ _ c.requires.0.0), rw (cells (part_arg_2_1_to_start c)) c.requires.1.1),
     )
 
 serve_all_requires : tie.Need-serve_all-requires
 serve_all_requires c κs =
-    let cut = rw (cells c.before.before.before.before.before.before.before.before.before.before.before.before.before.before.before.before) at c.part.ensures.0.cut in (
+    let cut = rw (cells (serve_all_arg_1_to_start c)) at c.part.ensures.0.cut in (
       (c.requires.0.0, omega (arith, c.part.ensures.0.uncut.long, c.requires.0.1)),
       (
         c.requires.1.0,
         omega (arith, cut.long, few_rows_lem _ _ c.requires.0.0),
-        rw (cells c.before.before.before.before.before.before.before.before.before.before.before.before.before.before.before.before) at c.part.ensures.1,
+        rw (cells (serve_all_arg_1_to_start c)) at c.part.ensures.1,
         record { each = cut.each; long = refl },
       ),
     )

@@ -14,6 +14,25 @@ use Rattle.contracts.proofs.Uncut.{begins_firm, begins_asked}
 use Rattle.contracts.proofs.serve_side.Statement.{statement}
 use Rattle.contracts.proofs.serve_side.Tie as tie
 
+-- ways back: X_to_Y leads from the place X of the code to the earlier place Y
+abbrev slice_known_4_1_to_else_decided_b_eq0 : tie.After-slice_known-4-1 → tie.Else-decided-b-eq0
+slice_known_4_1_to_else_decided_b_eq0 c = c.before.before.before.before.before
+
+abbrev else_decided_b_eq0_to_else_keys_eq0 : tie.Else-decided-b-eq0 → tie.Else-keys-eq0
+else_decided_b_eq0_to_else_keys_eq0 c = c.before.before.before.before.before.before
+
+abbrev serve_asked_arg_1_to_else_keys_eq0 : tie.After-serve_asked-arg-1 → tie.Else-keys-eq0
+serve_asked_arg_1_to_else_keys_eq0 c = else_decided_b_eq0_to_else_keys_eq0 c.before.before
+
+abbrev serve_firm_arg_1_to_else_keys_eq0 : tie.After-serve_firm-arg-1 → tie.Else-keys-eq0
+serve_firm_arg_1_to_else_keys_eq0 c = c.before.before.before.before.before.before.before.before
+
+abbrev slice_known_4_1_to_else_keys_eq0 : tie.After-slice_known-4-1 → tie.Else-keys-eq0
+slice_known_4_1_to_else_keys_eq0 c = serve_asked_arg_1_to_else_keys_eq0 c.before.before.before
+
+abbrev slice_known_then_decided_b_eq0_1_to_else_keys_eq0 : tie.After-slice_known-then-decided-b-eq0-1 → tie.Else-keys-eq0
+slice_known_then_decided_b_eq0_1_to_else_keys_eq0 c = serve_firm_arg_1_to_else_keys_eq0 c.before.before.before
+
 -- there are keys, so that one of the two sides is cut, and they are its rows'
 some : (c : tie.Else-keys-eq0) → 0 < length c.args.keys.now
 some c = omega arith
@@ -29,11 +48,11 @@ front c = c.requires.1.2 (some c)
 
 serve_firm_requires : tie.Need-serve_firm-requires
 serve_firm_requires c κs =
-    side_rowed _ _ c.requires.0.0 _ _ (bit c.before.before.before.before.before.before.before.before) _ _ (front c.before.before.before.before.before.before.before.before) c.sort.ensures _ c.requires.0.1
+    side_rowed _ _ c.requires.0.0 _ _ (bit (serve_firm_arg_1_to_else_keys_eq0 c)) _ _ (front (serve_firm_arg_1_to_else_keys_eq0 c)) c.sort.ensures _ c.requires.0.1
 
 returns_2 : tie.Need-returns-then-decided-b-eq0
 returns_2 c = (
-  (λ h. firm_cut _ _ c.requires.0.0 _ _ (bit c.before.before.before.before.before.before.before.before.before.before.before) _ _ (front c.before.before.before.before.before.before.before.before.before.before.before) c.sort.ensures c.if-decided-b-eq0.true _
+  (λ h. firm_cut _ _ c.requires.0.0 _ _ (bit (slice_known_then_decided_b_eq0_1_to_else_keys_eq0 c)) _ _ (front (slice_known_then_decided_b_eq0_1_to_else_keys_eq0 c)) c.sort.ensures c.if-decided-b-eq0.true _
       (begins_firm _ _ c.requires.0.0 _ c.requires.1.0 _ c.requires.0.2 c.if-decided-b-eq0.true) _ _
       c.serve_firm.ensures),
   (λ e. absurd (c.if-keys-eq0.false e)),
@@ -41,19 +60,19 @@ returns_2 c = (
 
 serve_asked_requires : tie.Need-serve_asked-requires
 serve_asked_requires c κs =
-    side_rising _ _ c.requires.0.0 _ _ (bit c.before.before.before.before.before.before.before.before) _ _ (front c.before.before.before.before.before.before.before.before) c.sort.ensures _ c.requires.0.1
+    side_rising _ _ c.requires.0.0 _ _ (bit (serve_asked_arg_1_to_else_keys_eq0 c)) _ _ (front (serve_asked_arg_1_to_else_keys_eq0 c)) c.sort.ensures _ c.requires.0.1
 
 -- the side is not the first, so it is the second
 one : (c : tie.Else-decided-b-eq0)
     → at c.args.decided.now
     (most_agents + c.args.b)
     ≡ 1
-one c = omega (arith, bit c.before.before.before.before.before.before, c.if-decided-b-eq0.false)
+one c = omega (arith, bit (else_decided_b_eq0_to_else_keys_eq0 c), c.if-decided-b-eq0.false)
 
 returns_3 : tie.Need-returns
 returns_3 c = (
-  (λ h. asked_cut _ _ c.requires.0.0 _ _ (bit c.before.before.before.before.before.before.before.before.before.before.before) _ _ (front c.before.before.before.before.before.before.before.before.before.before.before) c.sort.ensures (one c.before.before.before.before.before) _
-      (begins_asked _ _ c.requires.0.0 _ c.requires.1.0 _ c.requires.0.2 (one c.before.before.before.before.before)) _ _
+  (λ h. asked_cut _ _ c.requires.0.0 _ _ (bit (slice_known_4_1_to_else_keys_eq0 c)) _ _ (front (slice_known_4_1_to_else_keys_eq0 c)) c.sort.ensures (one (slice_known_4_1_to_else_decided_b_eq0 c)) _
+      (begins_asked _ _ c.requires.0.0 _ c.requires.1.0 _ c.requires.0.2 (one (slice_known_4_1_to_else_decided_b_eq0 c))) _ _
       c.serve_asked.ensures),
   (λ e. absurd (c.if-keys-eq0.false e)),
 )

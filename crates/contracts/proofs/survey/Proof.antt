@@ -13,6 +13,22 @@ use Rattle.contracts.proofs.Verdicts.{fine_ready, planned_not, planned_none, pla
 use Rattle.contracts.proofs.survey.Statement.{statement}
 use Rattle.contracts.proofs.survey.Tie as tie
 
+-- ways back: X_to_Y leads from the place X of the code to the earlier place Y
+abbrev else_some_to_decide_some : tie.Else-some → tie.After-decide-some
+else_some_to_decide_some c = c.before.before.before
+
+abbrev spots_arg_1_to_decide_some : tie.After-spots-arg-1 → tie.After-decide-some
+spots_arg_1_to_decide_some c = c.before.before.before.before.before
+
+abbrev spots_arg_1_to_in_fine : tie.After-spots-arg-1 → tie.In-Fine
+spots_arg_1_to_in_fine c = c.before.before.before.before.before.before.before
+
+abbrev slice_known_then_some_1_to_decide_some : tie.After-slice_known-then-some-1 → tie.After-decide-some
+slice_known_then_some_1_to_decide_some c = spots_arg_1_to_decide_some c.before.before.before
+
+abbrev slice_known_then_some_1_to_in_fine : tie.After-slice_known-then-some-1 → tie.In-Fine
+slice_known_then_some_1_to_in_fine c = spots_arg_1_to_in_fine c.before.before.before
+
 answer : (c : tie.In-Fine)
     → Verdict.Fine
     ≡ assign_verdict c.args.section.now c.args.demands.now c.args.out.now
@@ -45,19 +61,19 @@ decide_requires c κs =
 
 spots_requires : tie.Need-spots-requires
 spots_requires c κs = (
-  ((ready c.before.before.before.before.before.before.before).agents, (cuts c.before.before.before.before.before).long, (counted c.before.before.before.before.before.before.before).long, c.requires.1),
-  (decided_most _ _ (ready c.before.before.before.before.before.before.before) _ (cuts c.before.before.before.before.before), spots_few _ _ (ready c.before.before.before.before.before.before.before) _ (cuts c.before.before.before.before.before) _ (counted c.before.before.before.before.before.before.before)),
+  ((ready (spots_arg_1_to_in_fine c)).agents, (cuts (spots_arg_1_to_decide_some c)).long, (counted (spots_arg_1_to_in_fine c)).long, c.requires.1),
+  (decided_most _ _ (ready (spots_arg_1_to_in_fine c)) _ (cuts (spots_arg_1_to_decide_some c)), spots_few _ _ (ready (spots_arg_1_to_in_fine c)) _ (cuts (spots_arg_1_to_decide_some c)) _ (counted (spots_arg_1_to_in_fine c))),
 )
 
 returns_2 : tie.Need-returns-then-some
 returns_2 c =
     let spots = c.spots.ensures in
-    planned_some _ _ _ _ _ spots.long _ _ c.judge-verdict.ensures.answer (cuts c.before.before.before.before.before.before.before.before)
-    c.if-some.true (spots_next _ _ (ready c.before.before.before.before.before.before.before.before.before.before) _ (cuts c.before.before.before.before.before.before.before.before) _ (counted c.before.before.before.before.before.before.before.before.before.before) _ spots)
+    planned_some _ _ _ _ _ spots.long _ _ c.judge-verdict.ensures.answer (cuts (slice_known_then_some_1_to_decide_some c))
+    c.if-some.true (spots_next _ _ (ready (slice_known_then_some_1_to_in_fine c)) _ (cuts (slice_known_then_some_1_to_decide_some c)) _ (counted (slice_known_then_some_1_to_in_fine c)) _ spots)
 
 returns_3 : tie.Need-returns-else-some
 returns_3 c =
-    planned_none _ _ _ _ _ c.requires.1 _ _ c.judge-verdict.ensures.answer (cuts c.before.before.before) c.if-some.false
+    planned_none _ _ _ _ _ c.requires.1 _ _ c.judge-verdict.ensures.answer (cuts (else_some_to_decide_some c)) c.if-some.false
     (λ b l. c.decide-some.ensures.0.cut b l ∙ c.decide-some.ensures.1 c.if-some.false b l)
 
 pub survey_spec : {M : Type 1} → statement M

@@ -8,10 +8,14 @@ use Rattle.ground.proofs.Admitted.{refused_weighing, verdict_is, fine_weighing, 
 use Rattle.ground.proofs.admit_with.Statement.{statement}
 use Rattle.ground.proofs.admit_with.Tie as tie
 
+-- ways back: X_to_Y leads from the place X of the code to the earlier place Y
+abbrev late_verdict_to_start : tie.After-late-verdict → tie.Start
+late_verdict_to_start c = c.before.before.before.before.before.before.before.before.before.before
+
 abbrev sheet : tie.Start → Sheet
 sheet c = columns_of c.args.bytes.now c.args.c
 
-verdict : (c : tie.After-late-verdict) → c.late-verdict.result ≡ admission_with (sheet c.before.before.before.before.before.before.before.before.before.before) c.args.room
+verdict : (c : tie.After-late-verdict) → c.late-verdict.result ≡ admission_with (sheet (late_verdict_to_start c)) c.args.room
 verdict c =
     c.late-verdict.ensures
     ∙ verdict_is _ _ _ _ _ c.weigh_read-w.ensures c.in-Fine.is _ _

@@ -13,6 +13,10 @@ use borrow.Author.Rules.{rules}
 use Rattle.mend.proofs.mend_counted.Statement.{statement}
 use Rattle.mend.proofs.mend_counted.Tie as tie
 
+-- ways back: X_to_Y leads from the place X of the code to the earlier place Y
+abbrev slice_known_then_s_copy_2_1_to_then_s_copy : tie.After-slice_known-then-s-copy-2-1 → tie.Then-s-copy
+slice_known_then_s_copy_2_1_to_then_s_copy c = c.before.before.before.before.before.before.before
+
 mul_if1 : tie.Need-overflow_mul-n
 mul_if1 c =
     omega (arith, c.count_changes-n.ensures, count_few (changed c.args.s.now) (length c.args.s.now))
@@ -33,7 +37,7 @@ write_mended_requires c κs =
 
 returns : tie.Need-returns-then-s-copy
 returns c =
-    room_done _ _ _ _ _ _ c.count_changes-n.ensures (roomy c.before.before.before.before.before.before.before) c.write_mended.ensures
+    room_done _ _ _ _ _ _ c.count_changes-n.ensures (roomy (slice_known_then_s_copy_2_1_to_then_s_copy c)) c.write_mended.ensures
 
 returns_2 : tie.Need-returns-else-s-copy
 returns_2 c = room_short _ _ _ (rw c.count_changes-n.ensures at c.if-s-copy.false)

@@ -20,6 +20,22 @@ use Rattle.printing.proofs.Front.{page_text_lem, page_long, lines_most, appended
 use Rattle.printing.proofs.print.Statement.{statement}
 use Rattle.printing.proofs.print.Tie as tie
 
+-- ways back: X_to_Y leads from the place X of the code to the earlier place Y
+abbrev lines_length_to_else_not_lists_good : tie.After-lines_length → tie.Else-not-lists_good
+lines_length_to_else_not_lists_good c = c.before.before.before
+
+abbrev then_out_size_to_else_not_lists_good : tie.Then-out-size → tie.Else-not-lists_good
+then_out_size_to_else_not_lists_good c = c.before.before.before.before
+
+abbrev slice_known_3_1_to_lines_length : tie.After-slice_known-3-1 → tie.After-lines_length
+slice_known_3_1_to_lines_length c = c.before.before.before.before.before.before.before.before.before
+
+abbrev write_lines_arg_1_to_else_not_lists_good : tie.After-write_lines-arg-1 → tie.Else-not-lists_good
+write_lines_arg_1_to_else_not_lists_good c = c.before.before.before.before.before.before.before.before.before
+
+abbrev slice_known_3_1_to_else_not_lists_good : tie.After-slice_known-3-1 → tie.Else-not-lists_good
+slice_known_3_1_to_else_not_lists_good c = write_lines_arg_1_to_else_not_lists_good c.before.before.before
+
 -- the lists are good past the first test
 good : (c : tie.Else-not-lists_good)
     → (leb (length c.args.kinds.now) most_agents
@@ -60,7 +76,7 @@ add_size c =
     let a = c.args in
     omega (
       arith,
-      (lists c.before.before.before).few,
+      (lists (lines_length_to_else_not_lists_good c)).few,
       c.lines_in-n.ensures,
       lines_most a.r (length a.kinds.now),
       c.head_length-head.ensures.1,
@@ -69,7 +85,7 @@ add_size c =
 
 returns_2 : tie.Need-returns-then-out-size
 returns_2 c =
-    no_room_lem _ _ _ _ _ (good c.before.before.before.before) (rw (page_size c.before) at c.if-out-size.true)
+    no_room_lem _ _ _ _ _ (good (then_out_size_to_else_not_lists_good c)) (rw (page_size c.before) at c.if-out-size.true)
 
 write_head_requires : tie.Need-write_head-requires
 write_head_requires c κs = omega (arith, c.head_length-head.ensures.0)
@@ -79,7 +95,7 @@ write_lines_requires c κs =
     let a = c.args in
     let n = c.lines_in-n.ensures in
     let l = c.write_head.auto.out in (
-      (lists c.before.before.before.before.before.before.before.before.before, omega (arith, n, lines_most a.r (length a.kinds.now))),
+      (lists (write_lines_arg_1_to_else_not_lists_good c), omega (arith, n, lines_most a.r (length a.kinds.now))),
       omega (arith, c.lines_length.ensures.0),
     )
 
@@ -99,9 +115,9 @@ returns_3 c =
     let filled =
     filled_count 0 _ _ (0 + length (head ++ lines)) (length (head ++ lines)) _ (omega arith)
     (whole a.out.now [] refl (filled_none 0 _ _)) in
-    rw (page_size c.before.before.before.before.before.before.before.before.before)
-    (all_printed _ _ _ _ _ (good c.before.before.before.before.before.before.before.before.before.before.before.before) _
-    (rw (page_size c.before.before.before.before.before.before.before.before.before) at c.if-out-size.false) (rw (sym text) at filled))
+    rw (page_size (slice_known_3_1_to_lines_length c))
+    (all_printed _ _ _ _ _ (good (slice_known_3_1_to_else_not_lists_good c)) _
+    (rw (page_size (slice_known_3_1_to_lines_length c)) at c.if-out-size.false) (rw (sym text) at filled))
 
 pub print_spec : {M : Type 1} → statement M
 print_spec =

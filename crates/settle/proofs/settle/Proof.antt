@@ -10,8 +10,15 @@ use Rattle.settle.proofs.Judged.{refused_read, turned_away_lem}
 use Rattle.settle.proofs.settle.Statement.{statement}
 use Rattle.settle.proofs.settle.Tie as tie
 
-abbrev read_to_start : tie.After-read → tie.Start
-read_to_start c = c.before.before.before.before.before
+-- ways back: X_to_Y leads from the place X of the code to the earlier place Y
+abbrev settle_read_arg_in_accepted_3_1_to_in_accepted : tie.After-settle_read-arg-in-Accepted-3-1 → tie.In-Accepted
+settle_read_arg_in_accepted_3_1_to_in_accepted c = c.before.before.before.before
+
+abbrev in_accepted_to_start : tie.In-Accepted → tie.Start
+in_accepted_to_start c = c.before.before.before.before.before.before
+
+abbrev turned_away_to_start : tie.After-turned_away → tie.Start
+turned_away_to_start c = c.before.before.before.before.before.before.before
 
 abbrev bytes : tie.Start → List ℕ
 bytes c = c.args.bytes.now
@@ -19,23 +26,20 @@ bytes c = c.args.bytes.now
 abbrev lists : tie.Start → Lent
 lists c = let a = c.args in lent a.figures.now a.money.now a.schedule.now a.amounts.now
 
-accepted : (c : tie.After-c) → read_of (bytes (read_to_start c.before.before)) ≡ Reading.Accepted c.c.given.0.0
-accepted c = sym c.before.before.read.ensures ∙ c.c.given.1
+accepted : (c : tie.In-Accepted) → read_of (bytes (in_accepted_to_start c)) ≡ Reading.Accepted c.in-Accepted.c
+accepted c = sym c.read.ensures ∙ c.in-Accepted.is
 
-settle_read_requires : tie.Need-settle-read-requires
-settle_read_requires c κs = accepted c.before.before.before.before.before
+settle_read_requires : tie.Need-settle_read-requires
+settle_read_requires c κs = accepted (settle_read_arg_in_accepted_3_1_to_in_accepted c)
 
-returns : tie.Need-returns
-returns c = let at_settle_read = c.before.before.before.before.before.before.before in at_settle_read.settle_read.ensures
+returns : tie.Need-returns-in-Accepted
+returns c = c.settle_read.ensures
 
-returns_2 : tie.Need-returns-2
+returns_2 : tie.Need-returns-in-Refused
 returns_2 c =
-    let at_why = c.before.before in
-    let at_read = at_why.before.before in
-    let at_start = at_read.before.before.before.before.before in
-    rw c.turned_away_lem.ensures
-    (turned_away_lem (verdict_of (bytes at_start) (lists at_start)) _
-    (refused_read (bytes at_start) (lists at_start) _ (sym at_read.read.ensures ∙ at_why.why.given.1)) _ _)
+    rw c.turned_away.ensures
+    (turned_away_lem (verdict_of (bytes (turned_away_to_start c)) (lists (turned_away_to_start c))) _
+    (refused_read (bytes (turned_away_to_start c)) (lists (turned_away_to_start c)) _ (sym c.read.ensures ∙ c.in-Refused.is)) _ _)
 
 pub settle_spec : {M : Type 1} → statement M
 settle_spec =

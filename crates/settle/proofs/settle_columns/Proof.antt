@@ -12,15 +12,9 @@ use Rattle.settle.proofs.Judged.{tradable, columns_traded}
 use Rattle.settle.proofs.settle_columns.Statement.{statement}
 use Rattle.settle.proofs.settle_columns.Tie as tie
 
--- ways back: X-to-Y leads from the place X of the code to the earlier place Y
-abbrev arg_to_start : tie.After-admit-with-arg → tie.Start
-arg_to_start c = c.before.before.before.before
-
-abbrev admit_to_start : tie.After-admit-with → tie.Start
-admit_to_start c = arg_to_start c.before.before.before.before.before
-
-abbrev arg4_to_admit : tie.After-trade-arg4 → tie.After-admit-with
-arg4_to_admit c = c.before.before.before.before
+-- ways back: X_to_Y leads from the place X of the code to the earlier place Y
+abbrev trade_arg_4_1_to_start : tie.After-trade-arg-4-1 → tie.Start
+trade_arg_4_1_to_start c = c.before.before.before.before.before.before.before.before.before.before.before.before.before
 
 abbrev sheet : tie.Start → Sheet
 sheet c = columns_of c.args.bytes.now c.args.c
@@ -36,15 +30,11 @@ fits c r =
 
 trade_requires : tie.Need-trade-requires
 trade_requires c κs =
-    let at_admit = arg4_to_admit c in
-    let s = admit_to_start at_admit in
-    (s.pre.0, tradable _ _ _ _ _ at_admit.admit-with.ensures s.pre.1.0 _ _ (fits s))
+    (c.requires.0, tradable _ _ _ _ _ c.admit_with-w.ensures c.requires.1.0 _ _ (fits (trade_arg_4_1_to_start c)))
 
 returns : tie.Need-returns
 returns c =
-    let at_trade = c.before.before.before.before in
-    let at_admit = arg4_to_admit at_trade.before in
-    columns_traded _ _ _ _ _ at_admit.admit-with.ensures _ (agents_long _ _) _ _ _ _ _ _ _ at_trade.trade.ensures
+    columns_traded _ _ _ _ _ c.admit_with-w.ensures _ (agents_long _ _) _ _ _ _ _ _ _ c.trade.ensures
 
 pub settle_columns_spec : {M : Type 1} → statement M
 settle_columns_spec =

@@ -29,27 +29,48 @@ use Rattle.settle.proofs.Judged.{settled_read, summary_refused, summary_fine, no
 use Rattle.settle.proofs.settle_read.Statement.{statement}
 use Rattle.settle.proofs.settle_read.Tie as tie
 
--- ways back: X-to-Y leads from the place X of the code to the earlier place Y
-abbrev room_to_start : tie.After-has-room → tie.Start
-room_to_start c = c.before.before.before.before.before
+-- ways back: X_to_Y leads from the place X of the code to the earlier place Y
+abbrev has_room_room_to_start : tie.After-has_room-room → tie.Start
+has_room_room_to_start c = c.before.before.before.before.before
 
-abbrev arg2_to_room : tie.After-settle-columns-arg2 → tie.After-has-room
-arg2_to_room c = c.before.before.before.before.before.before.before
+abbrev else_s_ne0_to_settle_columns_s : tie.Else-s-ne0 → tie.After-settle_columns-s
+else_s_ne0_to_settle_columns_s c = c.before.before.before.before.before.before
 
-abbrev columns_to_room : tie.After-settle-columns → tie.After-has-room
-columns_to_room c = arg2_to_room c.before
+abbrev then_s_ne0_to_settle_columns_s : tie.Then-s-ne0 → tie.After-settle_columns-s
+then_s_ne0_to_settle_columns_s c = c.before.before.before.before.before.before
 
-abbrev columns_to_start : tie.After-settle-columns → tie.Start
-columns_to_start c = room_to_start (columns_to_room c)
+abbrev settle_columns_arg_2_1_to_has_room_room : tie.After-settle_columns-arg-2-1 → tie.After-has_room-room
+settle_columns_arg_2_1_to_has_room_room c = c.before.before.before.before.before.before.before
 
-abbrev else_to_columns : tie.Else1 → tie.After-settle-columns
-else_to_columns c = c.before.before.before.before.before.before
+abbrev write_lines_arg_2_1_to_else_s_ne0 : tie.After-write_lines-arg-2-1 → tie.Else-s-ne0
+write_lines_arg_2_1_to_else_s_ne0 c = c.before.before.before.before.before.before.before
 
-abbrev else_to_start : tie.Else1 → tie.Start
-else_to_start c = columns_to_start (else_to_columns c)
+abbrev money_1_to_else_s_ne0 : tie.After-money-1 → tie.Else-s-ne0
+money_1_to_else_s_ne0 c = write_lines_arg_2_1_to_else_s_ne0 c.before.before.before.before
 
-abbrev lines_arg2_to_else : tie.After-write-lines-arg2 → tie.Else1
-lines_arg2_to_else c = c.before.before.before.before.before.before.before
+abbrev settle_columns_arg_2_1_to_start : tie.After-settle_columns-arg-2-1 → tie.Start
+settle_columns_arg_2_1_to_start c = has_room_room_to_start c.before.before.before.before.before.before.before
+
+abbrev settle_columns_s_to_start : tie.After-settle_columns-s → tie.Start
+settle_columns_s_to_start c = settle_columns_arg_2_1_to_start c.before
+
+abbrev money_1_to_settle_columns_s : tie.After-money-1 → tie.After-settle_columns-s
+money_1_to_settle_columns_s c = else_s_ne0_to_settle_columns_s c.before.before.before.before.before.before.before.before.before.before.before
+
+abbrev else_s_ne0_to_start : tie.Else-s-ne0 → tie.Start
+else_s_ne0_to_start c = settle_columns_s_to_start c.before.before.before.before.before.before
+
+abbrev then_s_ne0_to_start : tie.Then-s-ne0 → tie.Start
+then_s_ne0_to_start c = settle_columns_s_to_start c.before.before.before.before.before.before
+
+abbrev write_lines_arg_2_1_to_has_room_room : tie.After-write_lines-arg-2-1 → tie.After-has_room-room
+write_lines_arg_2_1_to_has_room_room c = settle_columns_arg_2_1_to_has_room_room c.before.before.before.before.before.before.before.before.before.before.before.before.before.before
+
+abbrev write_lines_arg_2_1_to_start : tie.After-write_lines-arg-2-1 → tie.Start
+write_lines_arg_2_1_to_start c = else_s_ne0_to_start c.before.before.before.before.before.before.before
+
+abbrev money_1_to_start : tie.After-money-1 → tie.Start
+money_1_to_start c = write_lines_arg_2_1_to_start c.before.before.before.before
 
 abbrev bytes : tie.Start → List ℕ
 bytes c = c.args.bytes.now
@@ -69,122 +90,108 @@ few c = (accepted_few _ _ c.requires).agents
 ok : (c : tie.Start) → Sound (sheet c)
 ok c = sound _ _ c.requires
 
-room : (c : tie.After-has-room) → c.has_room.result ≡ true → Roomy (sheet (room_to_start c)) (lists (room_to_start c))
-room c = let s = room_to_start c in room_there (bytes s) s.args.c (lists s) _ c.has_room.ensures
+room : (c : tie.After-has_room-room) → c.has_room-room.result ≡ true → Roomy (sheet (has_room_room_to_start c)) (lists (has_room_room_to_start c))
+room c = room_there (bytes (has_room_room_to_start c)) c.args.c (lists (has_room_room_to_start c)) _ c.has_room-room.ensures
 
-settle_columns_requires : tie.Need-settle-columns-requires
+settle_columns_requires : tie.Need-settle_columns-s-requires
 settle_columns_requires c κs =
-    let at_room = arg2_to_room c in
-    let s = room_to_start at_room in
-    let p = plants_long (bytes s) s.args.c in
-    let k = contracts_long (bytes s) s.args.c in (
-      s.pre,
+    let p = plants_long (bytes (settle_columns_arg_2_1_to_start c)) c.args.c in
+    let k = contracts_long (bytes (settle_columns_arg_2_1_to_start c)) c.args.c in (
+      c.requires,
       (
         refl,
-        λ r. (omega (arith, p, (room at_room r).schedule), omega (arith, k, (room at_room r).amounts)),
+        λ r. (omega (arith, p, (room (settle_columns_arg_2_1_to_has_room_room c) r).schedule), omega (arith, k, (room (settle_columns_arg_2_1_to_has_room_room c) r).amounts)),
       ),
     )
 
 -- the verdict on the columns is that for the lent lists
-abbrev judged : tie.After-settle-columns → Verdict
-judged c = admission_with (sheet (columns_to_start c)) (columns_to_room c).has_room.result
+abbrev judged : tie.After-settle_columns-s → Verdict
+judged c = admission_with (sheet (settle_columns_s_to_start c)) c.has_room-room.result
 
-verdict : (c : tie.After-settle-columns) → judged c ≡ hour_verdict (sheet (columns_to_start c)) (lists (columns_to_start c))
-verdict c = admission_is _ _ (lists (columns_to_start c)) _ (columns_to_room c).has_room.ensures
+verdict : (c : tie.After-settle_columns-s) → judged c ≡ hour_verdict (sheet (settle_columns_s_to_start c)) (lists (settle_columns_s_to_start c))
+verdict c = admission_is _ _ (lists (settle_columns_s_to_start c)) _ c.has_room-room.ensures
 
 -- ---- a refusal
-returns : tie.Need-returns
+returns : tie.Need-returns-then-s-ne0
 returns c =
-    let at_columns = c.before.before.before.before.before.before in
-    let at_start = columns_to_start at_columns in
-    let d = at_columns.settle-columns.ensures in
-    let q = summary_refused (judged at_columns) (sheet at_start) _ d.answered c.if1.true in
-    settled_read _ _ _ _ _ at_start.pre
-    (rw (← verdict at_columns)
+    let d = c.settle_columns-s.ensures in
+    let q = summary_refused (judged (then_s_ne0_to_settle_columns_s c)) (sheet (then_s_ne0_to_start c)) _ d.answered c.if-s-ne0.true in
+    settled_read _ _ _ _ _ c.requires
+    (rw (← verdict (then_s_ne0_to_settle_columns_s c))
     (record {
       answered = d.answered;
-      figures = none_written (judged at_columns) _ q 0 _ _ _;
-      money = none_written (judged at_columns) _ q (pos 0) _ _ _;
+      figures = none_written (judged (then_s_ne0_to_settle_columns_s c)) _ q 0 _ _ _;
+      money = none_written (judged (then_s_ne0_to_settle_columns_s c)) _ q (pos 0) _ _ _;
       schedule = d.schedule;
       amounts = d.amounts;
     }))
 
 -- ---- an hour that nothing turns away
-fine : (c : tie.Else1) → judged (else_to_columns c) ≡ Verdict.Fine
-fine c = summary_fine _ (sheet (else_to_start c)) _ (else_to_columns c).settle-columns.ensures.answered (none_told _ _) c.if1.false
+fine : (c : tie.Else-s-ne0) → judged (else_s_ne0_to_settle_columns_s c) ≡ Verdict.Fine
+fine c = summary_fine _ (sheet (else_s_ne0_to_start c)) _ c.settle_columns-s.ensures.answered (none_told _ _) c.if-s-ne0.false
 
-price : (c : tie.Else1) → (else_to_columns c).settle-columns.result.price ≡ bolsa_price (sheet (else_to_start c))
-price c = ap (λ (x : Summary). x.price) (rw (fine c) at (else_to_columns c).settle-columns.ensures.answered)
+price : (c : tie.Else-s-ne0) → c.settle_columns-s.result.price ≡ bolsa_price (sheet (else_s_ne0_to_start c))
+price c = ap (λ (x : Summary). x.price) (rw (fine c) at c.settle_columns-s.ensures.answered)
 
 -- the columns
-abbrev kinds : tie.After-settle-columns → List ℕ
-kinds c = c.settle-columns.new.1.1.0
+abbrev kinds : tie.After-settle_columns-s → List ℕ
+kinds c = c.settle_columns-s.new.kinds
 
-abbrev shares : tie.After-settle-columns → List ℕ
-shares c = c.settle-columns.new.1.1.1.0
+abbrev shares : tie.After-settle_columns-s → List ℕ
+shares c = c.settle_columns-s.new.shares
 
-abbrev held : tie.After-settle-columns → List ℕ
-held c = c.settle-columns.new.1.1.1.1.0
+abbrev held : tie.After-settle_columns-s → List ℕ
+held c = c.settle_columns-s.new.held
 
-abbrev own : tie.After-settle-columns → List ℕ
-own c = c.settle-columns.new.1.1.1.1.1.0
+abbrev own : tie.After-settle_columns-s → List ℕ
+own c = c.settle_columns-s.new.own
 
-abbrev imports : tie.After-settle-columns → List ℕ
-imports c = c.settle-columns.new.1.1.1.1.1.1.0
+abbrev imports : tie.After-settle_columns-s → List ℕ
+imports c = c.settle_columns-s.new.imports
 
-stand : (c : tie.Else1)
-    → let k = else_to_columns c in
-    LineColumns (sheet (else_to_start c)) (else_to_start c).args.c.agents (kinds k) (shares k) (own k) (imports k) (held k)
-stand c = (else_to_columns c).settle-columns.ensures.columns (fine c)
+stand : (c : tie.Else-s-ne0)
+    → LineColumns (sheet (else_s_ne0_to_start c)) c.args.c.agents (kinds (else_s_ne0_to_settle_columns_s c)) (shares (else_s_ne0_to_settle_columns_s c)) (own (else_s_ne0_to_settle_columns_s c)) (imports (else_s_ne0_to_settle_columns_s c)) (held (else_s_ne0_to_settle_columns_s c))
+stand c = c.settle_columns-s.ensures.columns (fine c)
 
-fits : (c : tie.Else1) (a : ℕ)
-    → a < (else_to_start c).args.c.agents
-    → let k = else_to_columns c in buys (at (kinds k) a) (at (own k) a) (at (imports k) a) (at (held k) a) ≤ 4294967295
+fits : (c : tie.Else-s-ne0) (a : ℕ)
+    → a < c.args.c.agents
+    → buys (at (kinds (else_s_ne0_to_settle_columns_s c)) a) (at (own (else_s_ne0_to_settle_columns_s c)) a) (at (imports (else_s_ne0_to_settle_columns_s c)) a) (at (held (else_s_ne0_to_settle_columns_s c)) a) ≤ 4294967295
 fits c =
-    let k = else_to_columns c in
-    let s = else_to_start c in
     let l = stand c in
-    lines_fit (sheet s) _ (count s) (kinds k) (shares k) (own k) (imports k) (held k) l.kinds l.shares l.own l.imports
-    l.held (ok s) (balanced _ (admits _ _ (fine c)).balance)
+    lines_fit (sheet (else_s_ne0_to_start c)) _ (count (else_s_ne0_to_start c)) (kinds (else_s_ne0_to_settle_columns_s c)) (shares (else_s_ne0_to_settle_columns_s c)) (own (else_s_ne0_to_settle_columns_s c)) (imports (else_s_ne0_to_settle_columns_s c)) (held (else_s_ne0_to_settle_columns_s c)) l.kinds l.shares l.own l.imports
+    l.held (ok (else_s_ne0_to_start c)) (balanced _ (admits _ _ (fine c)).balance)
 
-write_lines_requires : tie.Need-write-lines-requires
+write_lines_requires : tie.Need-write_lines-requires
 write_lines_requires c κs =
-    let e = lines_arg2_to_else c in
-    let s = else_to_start e in
-    let r = room (columns_to_room (else_to_columns e)) (admits _ _ (fine e)).has_room in (
+    let r = room (write_lines_arg_2_1_to_has_room_room c) (admits _ _ (fine (write_lines_arg_2_1_to_else_s_ne0 c))).has_room in (
       (
-        few s,
-        omega (arith, count s, r.figures),
-        omega (arith, count s, r.money),
-        omega (arith, price e, price_le _ (ok s)),
+        few (write_lines_arg_2_1_to_start c),
+        omega (arith, count (write_lines_arg_2_1_to_start c), r.figures),
+        omega (arith, count (write_lines_arg_2_1_to_start c), r.money),
+        omega (arith, price (write_lines_arg_2_1_to_else_s_ne0 c), price_le _ (ok (write_lines_arg_2_1_to_start c))),
       ),
-      fits e,
+      fits (write_lines_arg_2_1_to_else_s_ne0 c),
     )
 
 -- the lines that were written are the sheet's
-returns_2 : tie.Need-returns-2
+returns_2 : tie.Need-returns
 returns_2 c =
-    let at_lines = c.before.before.before in
-    let at_else = lines_arg2_to_else at_lines.before in
-    let at_columns = else_to_columns at_else in
-    let at_start = columns_to_start at_columns in
-    let k = at_columns in
-    let d = at_columns.settle-columns.ensures in
-    let l = stand at_else in
-    let h = sheet at_start in
+    let d = c.settle_columns-s.ensures in
+    let l = stand (money_1_to_else_s_ne0 c) in
+    let h = sheet (money_1_to_start c) in
     let f =
-    figures_are h _ (count at_start) (kinds k) (shares k) (own k) (imports k) (held k) l.kinds l.shares l.own l.imports
+    figures_are h _ (count (money_1_to_start c)) (kinds (money_1_to_settle_columns_s c)) (shares (money_1_to_settle_columns_s c)) (own (money_1_to_settle_columns_s c)) (imports (money_1_to_settle_columns_s c)) (held (money_1_to_settle_columns_s c)) l.kinds l.shares l.own l.imports
     l.held in
     let m =
-    money_are h _ (count at_start) (kinds k) (shares k) (own k) (imports k) (held k) l.kinds l.shares l.own l.imports
+    money_are h _ (count (money_1_to_start c)) (kinds (money_1_to_settle_columns_s c)) (shares (money_1_to_settle_columns_s c)) (own (money_1_to_settle_columns_s c)) (imports (money_1_to_settle_columns_s c)) (held (money_1_to_settle_columns_s c)) l.kinds l.shares l.own l.imports
     l.held in
-    let w = at_lines.write-lines.ensures in
-    settled_read _ _ _ _ _ at_start.pre
-    (rw (← verdict at_columns)
+    let w = c.write_lines.ensures in
+    settled_read _ _ _ _ _ c.requires
+    (rw (← verdict (money_1_to_settle_columns_s c))
     (record {
       answered = d.answered;
-      figures = rw (fine at_else) (f _ _ w.0);
-      money = rw (fine at_else) (m _ (price at_else) _ _ w.1);
+      figures = rw (fine (money_1_to_else_s_ne0 c)) (f _ _ w.0);
+      money = rw (fine (money_1_to_else_s_ne0 c)) (m _ (price (money_1_to_else_s_ne0 c)) _ _ w.1);
       schedule = d.schedule;
       amounts = d.amounts;
     }))

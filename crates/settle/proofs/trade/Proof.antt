@@ -14,59 +14,52 @@ use Rattle.settle.proofs.Judged.{demands_are, trade_refused, traded}
 use Rattle.settle.proofs.trade.Statement.{statement}
 use Rattle.settle.proofs.trade.Tie as tie
 
--- ways back: X-to-Y leads from the place X of the code to the earlier place Y
-abbrev told_to_start : tie.After-enum-told → tie.Start
-told_to_start c = c.before.before.before.before.before
+-- ways back: X_to_Y leads from the place X of the code to the earlier place Y
+abbrev in_default_to_start : tie.In_default → tie.Start
+in_default_to_start c = c.before.before.before.before
 
-abbrev arg2_to_told : tie.After-agree-arg2 → tie.After-enum-told
-arg2_to_told c = c.before.before
+abbrev generate_arg_2_1_to_in_default : tie.After-generate-arg-2-1 → tie.In_default
+generate_arg_2_1_to_in_default c = c.before.before.before.before.before.before.before
 
-abbrev generate_arg2_to_agree : tie.After-generate-arg2 → tie.After-agree
-generate_arg2_to_agree c = c.before.before.before.before
+abbrev slice_known_4_1_to_in_default : tie.After-slice_known-4-1 → tie.In_default
+slice_known_4_1_to_in_default c = generate_arg_2_1_to_in_default c.before.before.before
 
 abbrev sheet : tie.Start → Sheet
 sheet c = columns_of c.args.bytes.now c.args.c
 
-returns : tie.Need-returns
+returns : tie.Need-returns-in-Refused
 returns c =
-    let at_verdict = c.before.before in
-    rw c.turned_away_lem.ensures (trade_refused _ _ at_verdict.verdict.given.1 _ _ _ _ _)
+    rw c.turned_away.ensures (trade_refused _ _ c.in-Refused.is _ _ _ _ _)
 
 -- ---- a sheet that nothing turns away
-clear : (c : tie.After-enum-told)
-    → let a = (told_to_start c).args in
-    Tradable (sheet (told_to_start c)) a.w a.held.now a.own.now (length a.schedule.now)
+clear : (c : tie.In_default)
+    → let a = c.args in
+    Tradable (sheet (in_default_to_start c)) a.w a.held.now a.own.now (length a.schedule.now)
     (length a.amounts.now)
-clear c = (told_to_start c).requires.1 c.enum_told.given.1
+clear c = c.requires.1 c.in_default.is
 
 -- the column has a cell for each agent
-long : (c : tie.After-agree-arg2) → length (told_to_start (arg2_to_told c)).args.held.now ≡ most_agents
+long : (c : tie.After-agree-arg-2-1) → length c.args.held.now ≡ most_agents
 long c = omega arith
 
 agree_requires : tie.Need-agree-requires
 agree_requires c κs =
-    let t = arg2_to_told c in
-    let s = told_to_start t in
-    let few = (accepted_few _ _ s.pre.0).agents in
-    let each : s.args.c.agents ≤ length s.args.held.now = omega (arith, few, long c) in (
-      s.pre.0,
+    let few = (accepted_few _ _ c.requires.0).agents in
+    let each : c.args.c.agents ≤ length c.args.held.now = omega (arith, few, long c) in (
+      c.requires.0,
       (
         long c,
-        record { demands = demands_are _ _ _ (agents_long _ _) each (clear t).demands; fits = (clear t).fits },
+        record { demands = demands_are _ _ _ (agents_long _ _) each (clear c.before.before).demands; fits = (clear c.before.before).fits },
       ),
     )
 
-generate_requires : tie.Need-generate-requires
+generate_requires : tie.Need-generate-price-requires
 generate_requires c κs =
-    let t = arg2_to_told (generate_arg2_to_agree c).before in
-    ((told_to_start t).pre.0, (clear t).covered)
+    (c.requires.0, (clear (generate_arg_2_1_to_in_default c)).covered)
 
-returns_2 : tie.Need-returns-2
+returns_2 : tie.Need-returns
 returns_2 c =
-    let at_generate = c.before.before in
-    let at_agree = generate_arg2_to_agree at_generate.before in
-    let t = arg2_to_told at_agree.before in
-    traded _ t.enum_told.given.1 _ _ _ _ _ _ (clear t) _ _ _ _ _ _ _ at_generate.generate.ensures at_agree.agree.ensures
+    traded _ c.in_default.is _ _ _ _ _ _ (clear (slice_known_4_1_to_in_default c)) _ _ _ _ _ _ _ c.generate-price.ensures c.agree.ensures
 
 pub trade_spec : {M : Type 1} → statement M
 trade_spec =

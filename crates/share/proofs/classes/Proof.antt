@@ -26,24 +26,22 @@ lack_requires c κs =
 
 note_requires : tie.Need-note-requires invariant_loop decreases_loop
 note_requires c κs =
-    let a = c.args in
-    let l = c.loop-i in (
+    let a = c.args in (
       c.requires.1,
-      l.invariant.2.long,
-      classed_few (lack_of a.amount a.weights.now) a.low (2 ^ a.s) l.i l.counts
-          (omega (arith, c.requires.0.sharing.few)) l.invariant.2,
+      c.loop-i.invariant.2.long,
+      classed_few (lack_of a.amount a.weights.now) a.low (2 ^ a.s) c.loop-i.i c.loop-i.counts
+          (omega (arith, c.requires.0.sharing.few)) c.loop-i.invariant.2,
     )
 
 loop_again : tie.Need-loop-i-preserved invariant_loop decreases_loop
 loop_again c =
     let a = c.args in
-    let l = c.loop-i in
-    let i = l.i in (
+    let i = c.loop-i.i in (
       omega arith,
       omega (arith, c.note.ensures.long),
       classed_more (lack_of a.amount a.weights.now) a.low (2 ^ a.s) i _ _ _
           (lack_is a.amount a.weights.now a.t a.out.now c.requires.0 i (omega arith)
-          _ c.lack-k.ensures.0) c.note.ensures l.invariant.2,
+          _ c.lack-k.ensures.0) c.note.ensures c.loop-i.invariant.2,
     )
 
 returns : tie.Need-returns invariant_loop decreases_loop

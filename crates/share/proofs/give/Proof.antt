@@ -27,15 +27,18 @@ invariant_loop amount weights t x left out₀ rest₀ i₀ out rest i =
 abbrev decreases_loop : tie.decreases-loop-i
 decreases_loop amount weights t x left out₀ rest₀ i₀ out rest i = length weights - i
 
+-- ways back: X_to_Y leads from the place X of the code to the earlier place Y
+abbrev less_rest_to_lack_k : tie.After-less-rest invariant_loop decreases_loop → tie.After-lack-k invariant_loop decreases_loop
+less_rest_to_lack_k c = c.before.before.before
+
 loop_holds : tie.Need-loop-i-init invariant_loop decreases_loop
 loop_holds c = (omega arith, refl, rw keyed_none (omega arith), filled_none 0 _ _)
 
 lack_requires : tie.Need-lack-k-requires invariant_loop decreases_loop
 lack_requires c κs =
     let a = c.args in
-    let l = c.loop-i in
-    lack_asked a.amount a.weights.now a.t a.out.now c.requires.0 l.i
-    (omega arith) _ (l.invariant.3.kept l.i (le_refl l.i))
+    lack_asked a.amount a.weights.now a.t a.out.now c.requires.0 c.loop-i.i
+    (omega arith) _ (c.loop-i.invariant.3.kept c.loop-i.i (le_refl c.loop-i.i))
 
 -- the lack is the definition's
 lacks : (c : tie.After-lack-k invariant_loop decreases_loop)
@@ -52,16 +55,15 @@ shares : (c : tie.After-unit invariant_loop decreases_loop)
     ≡ share_of c.args.amount c.args.weights.now c.loop-i.i
 shares c =
     let a = c.args in
-    let l = c.loop-i in
     let h = c.requires.0 in
     omega (
       arith,
-      l.invariant.3.kept l.i (le_refl l.i),
-      h.floors l.i (omega arith),
+      c.loop-i.invariant.3.kept c.loop-i.i (le_refl c.loop-i.i),
+      h.floors c.loop-i.i (omega arith),
       c.unit.ensures,
-      ap (λ (z : ℕ). taken z a.x 1 l.rest) (lacks c.before),
+      ap (λ (z : ℕ). taken z a.x 1 c.loop-i.rest) (lacks c.before),
       share_taken a.amount a.weights.now (total_pos a.weights.now a.t h.sharing) a.x a.left
-          c.requires.1 l.i l.rest (omega arith) l.invariant.2,
+          c.requires.1 c.loop-i.i c.loop-i.rest (omega arith) c.loop-i.invariant.2,
     )
 
 add_out : tie.Need-overflow_add-out invariant_loop decreases_loop
@@ -71,16 +73,15 @@ add_out c =
 
 loop_again : tie.Need-loop-i-preserved invariant_loop decreases_loop
 loop_again c =
-    let a = c.args in
-    let l = c.loop-i in (
+    let a = c.args in (
       omega arith,
       search rules,
       omega (
         arith,
-        keyed_step (lack_of a.amount a.weights.now) one l.i a.x,
-        ap (λ (z : ℕ). pick (eqb z a.x) 1) (lacks c.before.before.before),
+        keyed_step (lack_of a.amount a.weights.now) one c.loop-i.i a.x,
+        ap (λ (z : ℕ). pick (eqb z a.x) 1) (lacks (less_rest_to_lack_k c)),
       ),
-      filled_more 0 _ _ _ _ _ (omega arith) (shares c.before.before) l.invariant.3,
+      filled_more 0 _ _ _ _ _ (omega arith) (shares c.before.before) c.loop-i.invariant.3,
     )
 
 returns : tie.Need-returns invariant_loop decreases_loop

@@ -20,6 +20,10 @@ invariant_loop s k agents section n i₀ i =
 abbrev decreases_loop : tie.decreases-loop-i
 decreases_loop s k agents section n i₀ i = n - i
 
+-- ways back: X_to_Y leads from the place X of the code to the earlier place Y
+abbrev in_default_to_part_of_section : tie.In_default invariant_loop decreases_loop → tie.After-part_of-section invariant_loop decreases_loop
+in_default_to_part_of_section c = c.before.before.before.before
+
 -- the sections that the code cut out say what the sheet says
 cut : (c : tie.After-part_of-section invariant_loop decreases_loop)
     → first_bad (told_in c.part_of-agents.result.now c.part_of-section.result.now
@@ -47,7 +51,7 @@ returns c =
     let told = c.in_default.is in
     told ∙ sym (c.loop-i.invariant
     ∙ bad_row _ _ _ _ (omega arith) (sym c.read_row-answer.ensures ∙ told))
-    ∙ cut c.before.before.before.before
+    ∙ cut (in_default_to_part_of_section c)
 
 loop_again : tie.Need-loop-i-preserved invariant_loop decreases_loop
 loop_again c =

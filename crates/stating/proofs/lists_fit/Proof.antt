@@ -9,17 +9,17 @@ use Rattle.stating.proofs.Marking.{limited}
 use Rattle.stating.proofs.lists_fit.Statement.{statement}
 use Rattle.stating.proofs.lists_fit.Tie as tie
 
-good : (c : tie.Else1) → counts_good c.before.before.before.before.before.args.c ≡ true
-good c = sym c.before.few.ensures ∙ not-false c.before.few.result c.if1.false
+good : (c : tie.Else-not-few) → counts_good c.args.c ≡ true
+good c = sym c.few.ensures ∙ c.if-not-few.false
 
-returns : tie.Need-returns
+returns : tie.Need-returns-then-not-few
 unfolding lists_fit
-returns c = rw (← c.before.few.ensures, not-true c.before.few.result c.if1.true)
+returns c = rw (← c.few.ensures, c.if-not-few.true)
 
-mul_result : tie.Need-overflow-mul-result
-mul_result c = omega (arith, (limited c.before.before.before.before.before.before.args.c (good c.before)).agents)
+mul_result : tie.Need-overflow_mul-result
+mul_result c = omega (arith, (limited c.args.c (good c.before)).agents)
 
-returns_2 : tie.Need-returns-2
+returns_2 : tie.Need-returns
 unfolding lists_fit
 returns_2 c = rw (good c.before.before.before.before)
 

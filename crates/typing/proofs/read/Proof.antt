@@ -14,6 +14,34 @@ use Rattle.typing.proofs.Reading.{wrong_kept, all_read}
 use Rattle.typing.proofs.read.Statement.{statement}
 use Rattle.typing.proofs.read.Tie as tie
 
+-- ways back: X_to_Y leads from the place X of the code to the earlier place Y
+abbrev gather_arg_1_to_scan_r : tie.After-gather-arg-1 → tie.After-scan-r
+gather_arg_1_to_scan_r c = c.before.before.before
+
+abbrev gather_arg_2_1_to_else_is_found : tie.After-gather-arg-2-1 → tie.Else-is_found
+gather_arg_2_1_to_else_is_found c = c.before.before.before.before.before
+
+abbrev gather_arg_2_1_to_scan_r : tie.After-gather-arg-2-1 → tie.After-scan-r
+gather_arg_2_1_to_scan_r c = c.before.before.before.before.before.before.before
+
+abbrev gather_arg_3_1_to_else_is_found : tie.After-gather-arg-3-1 → tie.Else-is_found
+gather_arg_3_1_to_else_is_found c = gather_arg_2_1_to_else_is_found c.before.before.before.before
+
+abbrev gather_arg_3_1_to_scan_r : tie.After-gather-arg-3-1 → tie.After-scan-r
+gather_arg_3_1_to_scan_r c = gather_arg_2_1_to_scan_r c.before.before.before.before
+
+abbrev gather_arg_4_1_to_else_is_found : tie.After-gather-arg-4-1 → tie.Else-is_found
+gather_arg_4_1_to_else_is_found c = gather_arg_3_1_to_else_is_found c.before.before.before.before
+
+abbrev gather_arg_4_1_to_scan_r : tie.After-gather-arg-4-1 → tie.After-scan-r
+gather_arg_4_1_to_scan_r c = gather_arg_3_1_to_scan_r c.before.before.before.before
+
+abbrev slice_known_8_1_to_else_is_found : tie.After-slice_known-8-1 → tie.Else-is_found
+slice_known_8_1_to_else_is_found c = gather_arg_4_1_to_else_is_found c.before.before.before
+
+abbrev slice_known_8_1_to_scan_r : tie.After-slice_known-8-1 → tie.After-scan-r
+slice_known_8_1_to_scan_r c = gather_arg_4_1_to_scan_r c.before.before.before
+
 -- the lists as they were lent
 abbrev lent : tie.After-scan-r → Numbers
 lent c =
@@ -38,34 +66,34 @@ returns c =
 gather_requires : tie.Need-gather-requires
 gather_requires c κs =
     let f = fitting c.before in
-    let g : length (listed 1 (typed c.before.before.before)) ≤ length (lent c.before.before.before).agents =
+    let g : length (listed 1 (typed (gather_arg_1_to_scan_r c))) ≤ length (lent (gather_arg_1_to_scan_r c)).agents =
     omega (arith, f.agents, f.few_agents) in
     g
 
 gather_requires_2 : tie.Need-gather-requires-2
 gather_requires_2 c κs =
-    let f = fitting c.before.before.before.before.before in
-    let g : length (listed 2 (typed c.before.before.before.before.before.before.before)) ≤ length (lent c.before.before.before.before.before.before.before).boundaries =
+    let f = fitting (gather_arg_2_1_to_else_is_found c) in
+    let g : length (listed 2 (typed (gather_arg_2_1_to_scan_r c))) ≤ length (lent (gather_arg_2_1_to_scan_r c)).boundaries =
     omega (arith, f.boundaries, f.few_boundaries) in
     g
 
 gather_requires_3 : tie.Need-gather-requires-3
 gather_requires_3 c κs =
-    let f = fitting c.before.before.before.before.before.before.before.before.before in
-    let g : length (listed 3 (typed c.before.before.before.before.before.before.before.before.before.before.before)) ≤ length (lent c.before.before.before.before.before.before.before.before.before.before.before).plants =
+    let f = fitting (gather_arg_3_1_to_else_is_found c) in
+    let g : length (listed 3 (typed (gather_arg_3_1_to_scan_r c))) ≤ length (lent (gather_arg_3_1_to_scan_r c)).plants =
     omega (arith, f.plants, f.few_plants) in
     g
 
 gather_requires_4 : tie.Need-gather-requires-4
 gather_requires_4 c κs =
-    let f = fitting c.before.before.before.before.before.before.before.before.before.before.before.before.before in
-    let g : length (listed 4 (typed c.before.before.before.before.before.before.before.before.before.before.before.before.before.before.before)) ≤ length (lent c.before.before.before.before.before.before.before.before.before.before.before.before.before.before.before).contracts =
+    let f = fitting (gather_arg_4_1_to_else_is_found c) in
+    let g : length (listed 4 (typed (gather_arg_4_1_to_scan_r c))) ≤ length (lent (gather_arg_4_1_to_scan_r c)).contracts =
     omega (arith, f.contracts, f.few_contracts) in
     g
 
 returns_2 : tie.Need-returns
 returns_2 c =
-    all_read (typed c.before.before.before.before.before.before.before.before.before.before.before.before.before.before.before.before.before.before) (lent c.before.before.before.before.before.before.before.before.before.before.before.before.before.before.before.before.before.before) c.scan-r.result c.scan-r.ensures _ (fine c.before.before.before.before.before.before.before.before.before.before.before.before.before.before.before.before) c.gather.ensures c.gather-2.ensures
+    all_read (typed (slice_known_8_1_to_scan_r c)) (lent (slice_known_8_1_to_scan_r c)) c.scan-r.result c.scan-r.ensures _ (fine (slice_known_8_1_to_else_is_found c)) c.gather.ensures c.gather-2.ensures
     c.gather-3.ensures c.gather-4.ensures
 
 pub read_spec : {M : Type 1} → statement M

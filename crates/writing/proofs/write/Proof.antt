@@ -12,18 +12,40 @@ use borrow.Author.Rules.{rules}
 use Rattle.writing.proofs.write.Statement.{statement}
 use Rattle.writing.proofs.write.Tie as tie
 
+-- ways back: X_to_Y leads from the place X of the code to the earlier place Y
+abbrev put_sheet_arg_1_to_in_default : tie.After-put_sheet-arg-1 → tie.In_default
+put_sheet_arg_1_to_in_default c = c.before.before.before
+
+abbrev slice_known_in_default_1_to_size_size : tie.After-slice_known-in_default-1 → tie.After-size-size
+slice_known_in_default_1_to_size_size c = c.before.before.before.before
+
+abbrev slice_known_in_default_1_to_in_default : tie.After-slice_known-in_default-1 → tie.In_default
+slice_known_in_default_1_to_in_default c = c.before.before.before.before.before.before
+
+abbrev in_default_to_start : tie.In_default → tie.Start
+in_default_to_start c = c.before.before.before.before.before.before.before
+
+abbrev size_size_to_start : tie.After-size-size → tie.Start
+size_size_to_start c = in_default_to_start c.before.before
+
+abbrev put_sheet_arg_1_to_start : tie.After-put_sheet-arg-1 → tie.Start
+put_sheet_arg_1_to_start c = size_size_to_start c.before
+
+abbrev slice_known_in_default_1_to_start : tie.After-slice_known-in_default-1 → tie.Start
+slice_known_in_default_1_to_start c = put_sheet_arg_1_to_start c.before.before.before
+
 abbrev given : tie.Start → Numbers
 given c = numbers c.args.agents.now c.args.boundaries.now c.args.plants.now c.args.contracts.now
 
 -- the lists were taken
 taken : (c : tie.In_default)
-    → write_verdict (given c.before.before.before.before.before.before.before) (length c.args.out.now) ≡ Verdict.Fine
+    → write_verdict (given (in_default_to_start c)) (length c.args.out.now) ≡ Verdict.Fine
 taken c = sym c.write_verdict-v.ensures ∙ c.in_default.is
 
-small : (c : tie.In_default) → trailer_start (counts_in (given c.before.before.before.before.before.before.before)) < 65536
-small c = lists_small (given c.before.before.before.before.before.before.before) (fine_good (given c.before.before.before.before.before.before.before) _ (taken c)).lists
+small : (c : tie.In_default) → trailer_start (counts_in (given (in_default_to_start c))) < 65536
+small c = lists_small (given (in_default_to_start c)) (fine_good (given (in_default_to_start c)) _ (taken c)).lists
 
-size_is : (c : tie.After-size-size) → c.size-size.result ≡ sheet_length (counts_in (given c.before.before.before.before.before.before.before.before.before))
+size_is : (c : tie.After-size-size) → c.size-size.result ≡ sheet_length (counts_in (given (size_size_to_start c)))
 size_is c = c.size-size.ensures ∙ ap sheet_length c.counts_in-c.ensures
 
 enum_told : tie.Need-enum_told-1
@@ -35,16 +57,16 @@ size_requires c κs = rw c.counts_in-c.ensures (small c.before)
 put_sheet_requires : tie.Need-put_sheet-requires
 put_sheet_requires c κs =
     let l =
-    fine_room (given c.before.before.before.before.before.before.before.before.before.before) (length c.args.out.now)
-    (taken c.before.before.before) in
+    fine_room (given (put_sheet_arg_1_to_start c)) (length c.args.out.now)
+    (taken (put_sheet_arg_1_to_in_default c)) in
     let s = size_is c.before in
-    (small c.before.before.before, omega arith)
+    (small (put_sheet_arg_1_to_in_default c), omega arith)
 
 returns : tie.Need-returns-in_default
 returns c =
-    let e = taken c.before.before.before.before.before.before in
-    let s = size_is c.before.before.before.before in
-    let q : 16 * (c.size-size.result / 16) ≡ sheet_length (counts_in (given c.before.before.before.before.before.before.before.before.before.before.before.before.before)) = omega arith in
+    let e = taken (slice_known_in_default_1_to_in_default c) in
+    let s = size_is (slice_known_in_default_1_to_size_size c) in
+    let q : 16 * (c.size-size.result / 16) ≡ sheet_length (counts_in (given (slice_known_in_default_1_to_start c))) = omega arith in
     record { answer = rw (e, s); bytes = rw (e, ← q) c.put_sheet.ensures }
 
 returns_2 : tie.Need-returns

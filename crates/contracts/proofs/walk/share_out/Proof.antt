@@ -13,6 +13,10 @@ use Rattle.contracts.proofs.Walks.{scattered_by}
 use Rattle.contracts.proofs.walk.share_out.Statement.{statement}
 use Rattle.contracts.proofs.walk.share_out.Tie as tie
 
+-- ways back: X_to_Y leads from the place X of the code to the earlier place Y
+abbrev slice_known_2_1_to_gather : tie.After-slice_known-2-1 → tie.After-gather
+slice_known_2_1_to_gather c = c.before.before.before.before.before.before.before.before.before.before
+
 weights_long : tie.Need-slice_bounds-share-end
 weights_long c =
     sym (length-take-le _ _ (omega (arith, c.gather.ensures.long, c.requires.1)))
@@ -31,7 +35,7 @@ returns c =
     let fine = share_fine (omega (arith, long, c.requires.1)) (omega (arith, long, c.requires.1)) c.share-v.ensures in
     scattered_by
     (λ u l. fine.filled.done u (omega (arith, long))
-    ∙ ap (λ (ws : List ℕ). share_of c.args.left ws u) (weights_are c.before.before.before.before.before.before.before.before.before.before))
+    ∙ ap (λ (ws : List ℕ). share_of c.args.left ws u) (weights_are (slice_known_2_1_to_gather c)))
     c.scatter.ensures
 
 pub share_out_spec : {M : Type 1} → statement M

@@ -23,6 +23,10 @@ invariant_loop bytes holders₀ flags₀ musts₀ offers₀ available₀ section
 abbrev decreases_loop : tie.decreases-loop-i
 decreases_loop bytes holders₀ flags₀ musts₀ offers₀ available₀ section n i₀ holders flags musts offers available i = n - i
 
+-- ways back: X_to_Y leads from the place X of the code to the earlier place Y
+abbrev plant_of_p_to_section_of_section : tie.After-plant_of-p invariant_loop decreases_loop → tie.After-section_of-section invariant_loop decreases_loop
+plant_of_p_to_section_of_section c = c.before.before.before.before
+
 abbrev section : tie.After-section_of-section invariant_loop decreases_loop → List ℕ
 section c = c.section_of-section.result.now
 
@@ -38,7 +42,7 @@ loop_holds c = (
 
 -- the row that was read
 is : (c : tie.After-plant_of-p invariant_loop decreases_loop)
-    → c.plant_of-p.result ≡ plant (section c.before.before.before.before) c.loop-i.i
+    → c.plant_of-p.result ≡ plant (section (plant_of_p_to_section_of_section c)) c.loop-i.i
 is c = cc
 
 loop_again : tie.Need-loop-i-preserved invariant_loop decreases_loop

@@ -25,57 +25,105 @@ use Rattle.settle.proofs.Stages.{spare_are, scheduled_at, scheduled_are, price_i
 use Rattle.settle.proofs.plants.generate.Statement.{statement}
 use Rattle.settle.proofs.plants.generate.Tie as tie
 
--- ways back: X-to-Y leads from the place X of the code to the earlier place Y
-abbrev holders_to_start : tie.After-holders → tie.Start
-holders_to_start c = c.before.before.before.before
+-- ways back: X_to_Y leads from the place X of the code to the earlier place Y
+abbrev holders_2_1_to_add_musts : tie.After-holders-2-1 → tie.After-add_musts
+holders_2_1_to_add_musts c = c.before.before.before
+
+abbrev offers_2_1_to_set_apart_must : tie.After-offers-2-1 → tie.After-set_apart-must
+offers_2_1_to_set_apart_must c = c.before.before.before
+
+abbrev set_apart_must_to_columns : tie.After-set_apart-must → tie.After-columns
+set_apart_must_to_columns c = c.before.before.before
+
+abbrev add_musts_arg_1_to_dispatch : tie.After-add_musts-arg-1 → tie.After-dispatch
+add_musts_arg_1_to_dispatch c = c.before.before.before.before
+
+abbrev dispatch_to_less_rest : tie.After-dispatch → tie.After-less-rest
+dispatch_to_less_rest c = c.before.before.before.before
+
+abbrev tally_arg_1_to_add_musts : tie.After-tally-arg-1 → tie.After-add_musts
+tally_arg_1_to_add_musts c = c.before.before.before.before
+
+abbrev add_musts_to_dispatch : tie.After-add_musts → tie.After-dispatch
+add_musts_to_dispatch c = c.before.before.before.before.before
+
+abbrev less_rest_to_columns : tie.After-less-rest → tie.After-columns
+less_rest_to_columns c = c.before.before.before.before.before
+
+abbrev dispatch_to_set_apart_must : tie.After-dispatch → tie.After-set_apart-must
+dispatch_to_set_apart_must c = c.before.before.before.before.before.before
+
+abbrev add_musts_to_less_rest : tie.After-add_musts → tie.After-less-rest
+add_musts_to_less_rest c = dispatch_to_less_rest c.before.before.before.before.before
 
 abbrev columns_to_start : tie.After-columns → tie.Start
-columns_to_start c = holders_to_start c.before.before.before.before.before
-
-abbrev apart_to_columns : tie.After-set-apart → tie.After-columns
-apart_to_columns c = c.before.before.before
-
-abbrev less_to_apart : tie.After-less → tie.After-set-apart
-less_to_apart c = c.before.before
-
-abbrev less_to_start : tie.After-less → tie.Start
-less_to_start c = columns_to_start (apart_to_columns (less_to_apart c))
-
-abbrev dispatch_to_less : tie.After-dispatch → tie.After-less
-dispatch_to_less c = c.before.before.before.before
+columns_to_start c = c.before.before.before.before.before.before.before.before.before
 
 abbrev dispatch_to_columns : tie.After-dispatch → tie.After-columns
-dispatch_to_columns c = apart_to_columns (less_to_apart (dispatch_to_less c))
+dispatch_to_columns c = less_rest_to_columns c.before.before.before.before
+
+abbrev flags_2_1_to_add_musts : tie.After-flags-2-1 → tie.After-add_musts
+flags_2_1_to_add_musts c = tally_arg_1_to_add_musts c.before.before.before.before.before
+
+abbrev price_to_add_musts : tie.After-price → tie.After-add_musts
+price_to_add_musts c = flags_2_1_to_add_musts c.before
+
+abbrev spare_2_1_to_start : tie.After-spare-2-1 → tie.Start
+spare_2_1_to_start c = columns_to_start c.before.before
+
+abbrev set_apart_must_to_start : tie.After-set_apart-must → tie.Start
+set_apart_must_to_start c = spare_2_1_to_start c.before
+
+abbrev add_musts_arg_1_to_columns : tie.After-add_musts-arg-1 → tie.After-columns
+add_musts_arg_1_to_columns c = dispatch_to_columns c.before.before.before.before
+
+abbrev add_musts_to_columns : tie.After-add_musts → tie.After-columns
+add_musts_to_columns c = add_musts_arg_1_to_columns c.before
+
+abbrev less_rest_to_start : tie.After-less-rest → tie.Start
+less_rest_to_start c = set_apart_must_to_start c.before.before
+
+abbrev offers_2_1_to_start : tie.After-offers-2-1 → tie.Start
+offers_2_1_to_start c = less_rest_to_start c.before
+
+abbrev spare_4_1_to_start : tie.After-spare-4-1 → tie.Start
+spare_4_1_to_start c = offers_2_1_to_start c.before
 
 abbrev dispatch_to_start : tie.After-dispatch → tie.Start
-dispatch_to_start c = less_to_start (dispatch_to_less c)
+dispatch_to_start c = spare_4_1_to_start c.before.before
 
-abbrev added_to_dispatch : tie.After-add-musts → tie.After-dispatch
-added_to_dispatch c = c.before.before.before.before.before
+abbrev tally_arg_1_to_columns : tie.After-tally-arg-1 → tie.After-columns
+tally_arg_1_to_columns c = add_musts_to_columns c.before.before.before.before
 
-abbrev added_to_columns : tie.After-add-musts → tie.After-columns
-added_to_columns c = dispatch_to_columns (added_to_dispatch c)
+abbrev add_musts_arg_1_to_start : tie.After-add_musts-arg-1 → tie.Start
+add_musts_arg_1_to_start c = dispatch_to_start c.before.before.before.before
 
-abbrev added_to_start : tie.After-add-musts → tie.Start
-added_to_start c = columns_to_start (added_to_columns c)
+abbrev add_musts_to_start : tie.After-add_musts → tie.Start
+add_musts_to_start c = add_musts_arg_1_to_start c.before
 
-abbrev known4_to_added : tie.After-slice-known4 → tie.After-add-musts
-known4_to_added c = c.before.before
+abbrev price_to_columns : tie.After-price → tie.After-columns
+price_to_columns c = tally_arg_1_to_columns c.before.before.before.before.before.before
 
-abbrev arg_to_added : tie.After-tally-arg → tie.After-add-musts
-arg_to_added c = known4_to_added c.before.before
+abbrev slice_known_4_1_to_start : tie.After-slice_known-4-1 → tie.Start
+slice_known_4_1_to_start c = add_musts_to_start c.before.before
 
-abbrev tally_to_added : tie.After-tally → tie.After-add-musts
-tally_to_added c = arg_to_added c.before.before
+abbrev holders_2_1_to_start : tie.After-holders-2-1 → tie.Start
+holders_2_1_to_start c = slice_known_4_1_to_start c.before
 
-abbrev known5_to_added : tie.After-slice-known5 → tie.After-add-musts
-known5_to_added c = tally_to_added c.before.before
+abbrev tally_arg_1_to_start : tie.After-tally-arg-1 → tie.Start
+tally_arg_1_to_start c = holders_2_1_to_start c.before
 
-abbrev price_arg_to_tally : tie.After-price-arg → tie.After-tally
-price_arg_to_tally c = c.before.before.before.before.before
+abbrev slice_known_5_1_to_start : tie.After-slice_known-5-1 → tie.Start
+slice_known_5_1_to_start c = tally_arg_1_to_start c.before.before.before
 
-abbrev price_arg_to_added : tie.After-price-arg → tie.After-add-musts
-price_arg_to_added c = tally_to_added (price_arg_to_tally c)
+abbrev offers_3_1_to_start : tie.After-offers-3-1 → tie.Start
+offers_3_1_to_start c = slice_known_5_1_to_start c.before
+
+abbrev flags_2_1_to_start : tie.After-flags-2-1 → tie.Start
+flags_2_1_to_start c = offers_3_1_to_start c.before
+
+abbrev price_to_start : tie.After-price → tie.Start
+price_to_start c = flags_2_1_to_start c.before
 
 abbrev sheet : tie.Start → Sheet
 sheet c = columns_of c.args.bytes.now c.args.c
@@ -95,180 +143,156 @@ room c = omega (arith, count c, c.requires.1.fits)
 -- ---- the columns are the sheet's
 abbrev listed : tie.After-columns → Fleet
 listed c =
-    let l = c.columns.new.1.1 in fleet l.0 l.1.0 l.1.1.0 l.1.1.1.0 l.1.1.1.1.0
+    fleet c.columns.new.holders c.columns.new.flags c.columns.new.musts c.columns.new.offers c.columns.new.available
 
-front : (c : tie.After-columns) → Fronts (sheet (columns_to_start c)) (columns_to_start c).args.c.plants (listed c)
+front : (c : tie.After-columns) → Fronts (sheet (columns_to_start c)) c.args.c.plants (listed c)
 front c =
     let n = few (columns_to_start c) in
-    fronts _ _ (columns_to_start c).requires.0 _ _ (record { holders = n; flags = n; musts = n; offers = n; available = n })
+    fronts _ _ c.requires.0 _ _ (record { holders = n; flags = n; musts = n; offers = n; available = n })
     c.columns.ensures
 
 musts_at : (c : tie.After-columns) (i : ℕ)
-    → i < (columns_to_start c).args.c.plants
+    → i < c.args.c.plants
     → at (listed c).musts i ≡ at (sheet (columns_to_start c)).must_run i
 musts_at c = c.columns.ensures.musts.done
 
 musts_sum : (c : tie.After-columns)
-    → sum (columns_to_start c).args.c.plants (at (listed c).musts)
+    → sum c.args.c.plants (at (listed c).musts)
     ≡ sum (plants (sheet (columns_to_start c))) (at (sheet (columns_to_start c)).must_run)
 musts_sum c = rw (count (columns_to_start c)) (sum_eq _ _ _ (musts_at c))
 
-spare : (c : tie.After-set-apart)
-    → take (columns_to_start (apart_to_columns c)).args.c.plants c.set_apart.new.1.1.0
-    ≡ spare_of (sheet (columns_to_start (apart_to_columns c)))
+spare : (c : tie.After-set_apart-must)
+    → take c.args.c.plants c.set_apart-must.new.available
+    ≡ spare_of (sheet (set_apart_must_to_start c))
 spare c =
-    let l = apart_to_columns c in
-    let s = columns_to_start l in
-    spare_are (sheet s) _ (count s) (listed l).musts (listed l).available _
-    (front_fits _ _ _ _ l.columns.ensures.available (few s)) (musts_at l) l.columns.ensures.available.done
-    c.set_apart.ensures.1
+    spare_are (sheet (set_apart_must_to_start c)) _ (count (set_apart_must_to_start c)) (listed (set_apart_must_to_columns c)).musts (listed (set_apart_must_to_columns c)).available _
+    (front_fits _ _ _ _ c.columns.ensures.available (few (set_apart_must_to_start c))) (musts_at (set_apart_must_to_columns c)) c.columns.ensures.available.done
+    c.set_apart-must.ensures.1
 
 -- the demand that the must-runs leave
-rest : (c : tie.After-less)
-    → c.less.result ≡ (less_to_start c).args.target
-    - sum (plants (sheet (less_to_start c))) (at (sheet (less_to_start c)).must_run)
+rest : (c : tie.After-less-rest)
+    → c.less-rest.result ≡ c.args.target
+    - sum (plants (sheet (less_rest_to_start c))) (at (sheet (less_rest_to_start c)).must_run)
 rest c =
-    c.less.ensures
-    ∙ ap (λ (m : ℕ). (less_to_start c).args.target - m)
-    ((less_to_apart c).set_apart.ensures.0 ∙ musts_sum (apart_to_columns (less_to_apart c)))
+    c.less-rest.ensures
+    ∙ ap (λ (m : ℕ). c.args.target - m)
+    (c.set_apart-must.ensures.0 ∙ musts_sum (less_rest_to_columns c))
 
 -- ---- the schedule
 above : (c : tie.After-dispatch)
     → Dispatched (sheet (dispatch_to_start c)).offers (spare_of (sheet (dispatch_to_start c)))
-    (dispatch_to_less c).less.result (dispatch_to_start c).args.schedule.now c.dispatch.result
-    c.dispatch.new.1.1.1.0
+    c.less-rest.result c.args.schedule.now c.dispatch.result
+    c.dispatch.new.out
 above c =
-    let at_apart = c.before.before.before.before.before.before in
-    rw ((front at_apart.before.before.before).offers, spare at_apart) at c.dispatch.ensures
+    rw ((front (dispatch_to_columns c)).offers, spare (dispatch_to_set_apart_must c)) at c.dispatch.ensures
 
 each : (c : tie.After-dispatch) (i : ℕ)
     → i < plants (sheet (dispatch_to_start c))
-    → at (sheet (dispatch_to_start c)).must_run i + at c.dispatch.new.1.1.1.0 i
+    → at (sheet (dispatch_to_start c)).must_run i + at c.dispatch.new.out i
     ≡ scheduled (sheet (dispatch_to_start c)) i
 each c =
-    scheduled_at _ (ok (dispatch_to_start c)) _ _ _ (dispatch_to_start c).requires.1 _ (rest (dispatch_to_less c)) _ _
+    scheduled_at _ (ok (dispatch_to_start c)) _ _ _ c.requires.1 _ (rest (dispatch_to_less_rest c)) _ _
     (above c)
 
-filled : (c : tie.After-add-musts)
-    → Filled 0 (added_to_start c).args.schedule.now c.add-musts.new.1.1.0
-    (added_to_start c).args.c.plants (scheduled (sheet (added_to_start c)))
+filled : (c : tie.After-add_musts)
+    → Filled 0 c.args.schedule.now c.add_musts.new.schedule
+    c.args.c.plants (scheduled (sheet (add_musts_to_start c)))
 filled c =
-    let d = added_to_dispatch c in
-    let s = added_to_start c in
-    filled_count 0 _ _ _ _ _ (count s)
-    (scheduled_are _ (ok s) _ _ _ s.pre.1 _ (rest (dispatch_to_less d)) _ _ (above d) _
-    (filled_count 0 _ _ _ _ _ (sym (count s))
-    (filled_by 0 _ _ _ _ _ (λ i m. ap (λ (x : ℕ). x + at d.dispatch.last.1.1.1.0 i) (musts_at (added_to_columns c) i m))
-    c.add-musts.ensures)))
+    filled_count 0 _ _ _ _ _ (count (add_musts_to_start c))
+    (scheduled_are _ (ok (add_musts_to_start c)) _ _ _ c.requires.1 _ (rest (add_musts_to_less_rest c)) _ _ (above (add_musts_to_dispatch c)) _
+    (filled_count 0 _ _ _ _ _ (sym (count (add_musts_to_start c)))
+    (filled_by 0 _ _ _ _ _ (λ i m. ap (λ (x : ℕ). x + at c.dispatch.new.out i) (musts_at (add_musts_to_columns c) i m))
+    c.add_musts.ensures)))
 
 -- all must-runs together are at most the demand
-set_apart_requires : tie.Need-set-apart-requires
-set_apart_requires c κs =
-    let l = c.before.before in
-    let s = columns_to_start l in (
-      few s,
-      front_fits _ _ _ _ l.columns.ensures.available (few s),
-      omega (arith, musts_sum l, s.pre.1.runs, s.pre.1.target),
-    )
+set_apart_requires : tie.Need-set_apart-must-requires
+set_apart_requires c κs = (
+  few (spare_2_1_to_start c),
+  front_fits _ _ _ _ c.columns.ensures.available (few (spare_2_1_to_start c)),
+  omega (arith, musts_sum c.before.before, c.requires.1.runs, c.requires.1.target),
+)
 
-array_share_prefix_offers : tie.Need-array-share-prefix-offers
+array_share_prefix_offers : tie.Need-slice_bounds-offers-end
 array_share_prefix_offers c =
-    front_fits _ _ _ _ (apart_to_columns (less_to_apart c)).columns.ensures.offers (few (less_to_start c))
+    front_fits _ _ _ _ c.columns.ensures.offers (few (less_rest_to_start c))
 
-slice_aggregate_dispatch : tie.Need-slice-aggregate-dispatch
+slice_aggregate_dispatch : tie.Need-slice_bounds-dispatch-end
 slice_aggregate_dispatch c =
-    let l = apart_to_columns (less_to_apart c.before) in
-    sym (front_long _ _ _ _ l.columns.ensures.offers (few (columns_to_start l)))
+    sym (front_long _ _ _ _ c.columns.ensures.offers (few (offers_2_1_to_start c)))
 
-spare_long : (c : tie.After-set-apart)
-    → (columns_to_start (apart_to_columns c)).args.c.plants ≤ length c.set_apart.new.1.1.0
+spare_long : (c : tie.After-set_apart-must)
+    → c.args.c.plants ≤ length c.set_apart-must.new.available
 spare_long c =
-    let l = apart_to_columns c in
-    front_fits _ _ _ _ c.set_apart.ensures.1 (front_fits _ _ _ _ l.columns.ensures.available (few (columns_to_start l)))
+    front_fits _ _ _ _ c.set_apart-must.ensures.1 (front_fits _ _ _ _ c.columns.ensures.available (few (set_apart_must_to_start c)))
 
-array_share_prefix_spare : tie.Need-array-share-prefix-spare
-array_share_prefix_spare c = spare_long (less_to_apart c.before)
+array_share_prefix_spare : tie.Need-slice_bounds-spare-end
+array_share_prefix_spare c = spare_long (offers_2_1_to_set_apart_must c)
 
-slice_aggregate_dispatch_2 : tie.Need-slice-aggregate-dispatch-2
+slice_aggregate_dispatch_2 : tie.Need-slice_bounds-dispatch-end-2
 slice_aggregate_dispatch_2 c =
-    let a = less_to_apart c.before.before in
-    let l = apart_to_columns a in
-    sym (front_long _ _ _ _ a.set_apart.ensures.1 (front_fits _ _ _ _ l.columns.ensures.available (few (columns_to_start l))))
+    sym (front_long _ _ _ _ c.set_apart-must.ensures.1 (front_fits _ _ _ _ c.columns.ensures.available (few (spare_4_1_to_start c))))
 
 -- a must-run and what lies above it fit one cell
-add_musts_requires : tie.Need-add-musts-requires
-add_musts_requires c κs =
-    let d = c.before.before.before.before in
-    let s = dispatch_to_start d in (
-      (few s, omega (arith, room s, (above d).result.long)),
-      λ i m.
-          let p : i < plants (sheet s) = omega (arith, count s) in
-          omega (arith, musts_at (dispatch_to_columns d) i m, each d i p, scheduled_le (sheet s) (ok s) i p),
-    )
+add_musts_requires : tie.Need-add_musts-requires
+add_musts_requires c κs = (
+  (few (add_musts_arg_1_to_start c), omega (arith, room (add_musts_arg_1_to_start c), (above (add_musts_arg_1_to_dispatch c)).result.long)),
+  λ i m.
+      let p : i < plants (sheet (add_musts_arg_1_to_start c)) = omega (arith, count (add_musts_arg_1_to_start c)) in
+      omega (arith, musts_at (add_musts_arg_1_to_columns c) i m, each (add_musts_arg_1_to_dispatch c) i p, scheduled_le (sheet (add_musts_arg_1_to_start c)) (ok (add_musts_arg_1_to_start c)) i p),
+)
 
-array_share_prefix_holders : tie.Need-array-share-prefix-holders
+array_share_prefix_holders : tie.Need-slice_bounds-holders-end
 array_share_prefix_holders c =
-    let l = added_to_columns (known4_to_added c) in
-    front_fits _ _ _ _ l.columns.ensures.holders (few (columns_to_start l))
+    front_fits _ _ _ _ c.columns.ensures.holders (few (slice_known_4_1_to_start c))
 
-slice_aggregate_tally : tie.Need-slice-aggregate-tally
+slice_aggregate_tally : tie.Need-slice_bounds-tally-end
 slice_aggregate_tally c =
-    let l = added_to_columns (known4_to_added c.before) in
-    sym (front_long _ _ _ _ l.columns.ensures.holders (few (columns_to_start l)))
+    sym (front_long _ _ _ _ c.columns.ensures.holders (few (holders_2_1_to_start c)))
 
-slice_reshare_prefix_tally : tie.Need-slice-reshare-prefix-tally
+slice_reshare_prefix_tally : tie.Need-slice_bounds-tally-end-2
 slice_reshare_prefix_tally c =
-    let a = known4_to_added c.before in front_fits _ _ _ _ (filled a) (room (added_to_start a))
+    front_fits _ _ _ _ (filled (holders_2_1_to_add_musts c)) (room (holders_2_1_to_start c))
 
-slice_aggregate_tally_2 : tie.Need-slice-aggregate-tally-2
-slice_aggregate_tally_2 c = let a = arg_to_added c in sym (front_long _ _ _ _ (filled a) (room (added_to_start a)))
+slice_aggregate_tally_2 : tie.Need-slice_bounds-tally-end-3
+slice_aggregate_tally_2 c = sym (front_long _ _ _ _ (filled (holders_2_1_to_add_musts c)) (room (holders_2_1_to_start c)))
 
 tally_requires : tie.Need-tally-requires
 tally_requires c κs =
-    let a = arg_to_added c.before in
-    let s = added_to_start a in
-    plants_count _ (ok s) _ (count s) _ _ (room s) (filled a) _ _ (front (added_to_columns a)).holders s.pre.1.own.long
-    (own_small _ (ok s) _ _ _ s.pre.1)
+    plants_count _ (ok (tally_arg_1_to_start c)) _ (count (tally_arg_1_to_start c)) _ _ (room (tally_arg_1_to_start c)) (filled (tally_arg_1_to_add_musts c)) _ _ (front (tally_arg_1_to_columns c)).holders c.requires.1.own.long
+    (own_small _ (ok (tally_arg_1_to_start c)) _ _ _ c.requires.1)
 
-array_share_prefix_offers_2 : tie.Need-array-share-prefix-offers-2
+array_share_prefix_offers_2 : tie.Need-slice_bounds-offers-end-2
 array_share_prefix_offers_2 c =
-    let l = added_to_columns (known5_to_added c) in
-    front_fits _ _ _ _ l.columns.ensures.offers (few (columns_to_start l))
+    front_fits _ _ _ _ c.columns.ensures.offers (few (slice_known_5_1_to_start c))
 
-slice_aggregate_price : tie.Need-slice-aggregate-price
+slice_aggregate_price : tie.Need-slice_bounds-price-end
 slice_aggregate_price c =
-    let l = added_to_columns (known5_to_added c.before) in
-    sym (front_long _ _ _ _ l.columns.ensures.offers (few (columns_to_start l)))
+    sym (front_long _ _ _ _ c.columns.ensures.offers (few (offers_3_1_to_start c)))
 
-array_share_prefix_flags : tie.Need-array-share-prefix-flags
+array_share_prefix_flags : tie.Need-slice_bounds-flags-end
 array_share_prefix_flags c =
-    let l = added_to_columns (known5_to_added c.before) in
-    front_fits _ _ _ _ l.columns.ensures.flags (few (columns_to_start l))
+    front_fits _ _ _ _ c.columns.ensures.flags (few (offers_3_1_to_start c))
 
-slice_aggregate_price_2 : tie.Need-slice-aggregate-price-2
+slice_aggregate_price_2 : tie.Need-slice_bounds-price-end-2
 slice_aggregate_price_2 c =
-    let l = added_to_columns (known5_to_added c.before.before) in
-    sym (front_long _ _ _ _ l.columns.ensures.flags (few (columns_to_start l)))
+    sym (front_long _ _ _ _ c.columns.ensures.flags (few (flags_2_1_to_start c)))
 
-slice_reshare_prefix_price : tie.Need-slice-reshare-prefix-price
+slice_reshare_prefix_price : tie.Need-slice_bounds-price-end-3
 slice_reshare_prefix_price c =
-    let a = known5_to_added c.before.before in front_fits _ _ _ _ (filled a) (room (added_to_start a))
+    front_fits _ _ _ _ (filled (flags_2_1_to_add_musts c)) (room (flags_2_1_to_start c))
 
-slice_aggregate_price_3 : tie.Need-slice-aggregate-price-3
-slice_aggregate_price_3 c = let a = price_arg_to_added c in sym (front_long _ _ _ _ (filled a) (room (added_to_start a)))
+slice_aggregate_price_3 : tie.Need-slice_bounds-price-end-4
+slice_aggregate_price_3 c = sym (front_long _ _ _ _ (filled (flags_2_1_to_add_musts c)) (room (flags_2_1_to_start c)))
 
 returns : tie.Need-returns
 returns c =
-    let t = price_arg_to_tally c.before in
-    let a = tally_to_added t in
-    let s = added_to_start a in
-    let f = front (added_to_columns a) in
+    let f = front (price_to_columns c) in
     record {
-      price = c.price.ensures ∙ price_is _ (ok s) _ (count s) _ _ (room s) (filled a) _ _ f.offers f.flags;
+      price = c.price.ensures ∙ price_is _ (ok (price_to_start c)) _ (count (price_to_start c)) _ _ (room (price_to_start c)) (filled (price_to_add_musts c)) _ _ f.offers f.flags;
       own =
-          own_is _ (ok s) _ (count s) _ _ (room s) (filled a) _ s.args.own.now t.tally.last.1.1.0 f.holders
-          s.pre.1.own t.tally.ensures;
-      schedule = filled_count 0 _ _ _ _ _ (sym (count s)) (filled a);
+          own_is _ (ok (price_to_start c)) _ (count (price_to_start c)) _ _ (room (price_to_start c)) (filled (price_to_add_musts c)) _ c.args.own.now c.tally.new.out f.holders
+          c.requires.1.own c.tally.ensures;
+      schedule = filled_count 0 _ _ _ _ _ (sym (count (price_to_start c))) (filled (price_to_add_musts c));
     }
 
 pub generate_spec : {M : Type 1} → statement M
@@ -277,5 +301,5 @@ generate_spec =
     (tie.spec (λ c κs. search rules) (λ c. search rules) set_apart_requires (λ c κs. search rules) array_share_prefix_offers
     slice_aggregate_dispatch array_share_prefix_spare slice_aggregate_dispatch_2 (λ c κs. search rules) add_musts_requires
     array_share_prefix_holders slice_aggregate_tally slice_reshare_prefix_tally slice_aggregate_tally_2 tally_requires
-    array_share_prefix_offers_2 slice_aggregate_price array_share_prefix_flags slice_aggregate_price_2
-    slice_reshare_prefix_price slice_aggregate_price_3 (λ c κs. search rules) (λ c. search rules) (λ c. search rules) returns)
+    array_share_prefix_offers_2 slice_aggregate_price array_share_prefix_flags slice_aggregate_price_2 slice_reshare_prefix_price
+    slice_aggregate_price_3 (λ c κs. search rules) (λ c. search rules) (λ c. search rules) returns)

@@ -3,13 +3,12 @@ use borrow.Author.Tests.{eq-eqb, ne_eqb}
 use Rattle.stating.proofs.fills.put_figures.Statement.{statement}
 use Rattle.stating.proofs.fills.put_figures.Tie as tie
 
-returns : tie.Need-returns
+returns : tie.Need-returns-then-l-eq1
 returns c =
-    let p = c.before.before in
-    rw (eq-eqb _ _ p.before.before.if1.true) p.put_six.ensures
+    rw (eq-eqb _ _ c.if-l-eq1.true) c.put_six.ensures
 
-returns_2 : tie.Need-returns-2
-returns_2 c = rw (ne_eqb _ _ c.if1.false)
+returns_2 : tie.Need-returns-else-l-eq1
+returns_2 c = rw (ne_eqb _ _ c.if-l-eq1.false)
 
 pub put_figures_spec : {M : Type 1} → statement M
 put_figures_spec = tie.close (tie.spec (λ c κs. search rules) (λ c. search rules) returns returns_2)

@@ -5,11 +5,7 @@ use Rattle.stating.proofs.fills.put_line.Tie as tie
 
 returns : tie.Need-returns
 returns c =
-    let a = c.before.before in
-    let s = a.before.before.before.before in
-    let m = s.before.before.before in
-    let f = m.before.before.before.before in
-    listed_is f.put-figures.ensures m.put-money.ensures s.put_second.ensures a.put-second2.ensures
+    listed_is c.put_figures.ensures c.put_money.ensures c.put_second.ensures c.put_second-2.ensures
 
 pub put_line_spec : {M : Type 1} → statement M
 put_line_spec =

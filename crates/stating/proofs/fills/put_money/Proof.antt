@@ -10,19 +10,16 @@ use Rattle.stating.proofs.fills.put_money.Statement.{statement}
 use Rattle.stating.proofs.fills.put_money.Tie as tie
 
 -- the money comes to the callee by way of its 64 bits
-returns : tie.Need-returns
+returns : tie.Need-returns-then-l-eq1
 returns c =
-    let p = c.before in
-    let m = p.before in
-    let t = m.before.before in
-    let a = t.before.before.before.args in
-    rw (eq-eqb _ _ t.if1.true)
-    (p.put-owed.ensures
+    let a = c.args in
+    rw (eq-eqb _ _ c.if-l-eq1.true)
+    (c.put_owed.ensures
     ∙ ap (λ (x : ℤ). set a.out.now (at a.l.numbers 0) x)
-    (to_z-of_z w64 a.l.money (record { sfits = m.struct_told.given.1.1.1.0.1 })))
+    (to_z-of_z w64 a.l.money (record { sfits = c.struct_told-1.given.1.1.1.0.1 })))
 
-returns_2 : tie.Need-returns-2
-returns_2 c = rw (ne_eqb _ _ c.if1.false)
+returns_2 : tie.Need-returns-else-l-eq1
+returns_2 c = rw (ne_eqb _ _ c.if-l-eq1.false)
 
 pub put_money_spec : {M : Type 1} → statement M
 put_money_spec =

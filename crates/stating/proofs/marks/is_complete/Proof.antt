@@ -9,30 +9,27 @@ use Rattle.stating.proofs.Marking as laws
 use Rattle.stating.proofs.marks.is_complete.Statement.{statement}
 use Rattle.stating.proofs.marks.is_complete.Tie as tie
 
-abbrev invariant_loop : tie.invariant-loop
+abbrev invariant_loop : tie.invariant-loop-i
 invariant_loop marks i₀ i = (i ≤ length marks) × ((k : ℕ) → k < i → eqb (at marks k) 0 ≡ false)
 
-abbrev decreases_loop : tie.decreases-loop
+abbrev decreases_loop : tie.decreases-loop-i
 decreases_loop marks i₀ i = length marks - i
 
-returns : tie.Need-returns invariant_loop decreases_loop
+returns : tie.Need-returns-then-marks-i-eq0 invariant_loop decreases_loop
 returns c =
-    let l = c.before.before.before in
-    sym (laws.not_complete l.before.args.marks.now l.loop.i (omega arith) c.if1.true l.loop.invariant.1)
+    sym (laws.not_complete c.args.marks.now c.loop-i.i (omega arith) c.if-marks-i-eq0.true c.loop-i.invariant.1)
 
-loop_again : tie.Need-loop-preserved invariant_loop decreases_loop
+loop_again : tie.Need-loop-i-preserved invariant_loop decreases_loop
 loop_again c =
-    let l = c.before.before.before in
-    (omega arith, laws.one_more l.before.args.marks.now l.loop.i c.if1.false l.loop.invariant.1)
+    (omega arith, laws.one_more c.args.marks.now c.loop-i.i c.if-marks-i-eq0.false c.loop-i.invariant.1)
 
-returns_2 : tie.Need-returns-2 invariant_loop decreases_loop
+returns_2 : tie.Need-returns invariant_loop decreases_loop
 returns_2 c =
-    let l = c.before in
-    let e : l.loop.i ≡ length l.before.args.marks.now = omega arith in
-    sym (laws.is_complete l.before.args.marks.now (rw e at l.loop.invariant.1))
+    let e : c.loop-i.i ≡ length c.args.marks.now = omega arith in
+    sym (laws.is_complete c.args.marks.now (rw e at c.loop-i.invariant.1))
 
 pub is_complete_spec : {M : Type 1} → statement M
 is_complete_spec =
     tie.close
-    (tie.spec invariant_loop decreases_loop (λ c. (omega arith, λ k h. absurd (omega arith))) (λ c. omega arith) returns (λ c. omega arith)
-    (λ c. omega arith) loop_again returns_2)
+    (tie.spec invariant_loop decreases_loop (λ c. (omega arith, λ k h. absurd (omega arith))) (λ c. omega arith) returns
+    (λ c. omega arith) (λ c. omega arith) loop_again returns_2)

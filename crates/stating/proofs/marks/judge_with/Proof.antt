@@ -9,18 +9,16 @@ use Rattle.stating.proofs.marks.judge_with.Tie as tie
 
 returns : tie.Need-returns
 unfolding last_fault
-returns c =
-    let m = c.before in
-    let k = m.before in
-    let j = k.before.before.before.before.mark-lines in (
-      ap (λ (x : Marked). x.line) j.ensures,
-      c.first-fault.ensures
-          ∙ ap (earlier j.result.fault)
-          (m.missing-fault.ensures ∙ ap (λ (t : Bool). cond t Fault.None Fault.Missing) k.is_complete.ensures)
-          ∙ ap last_fault j.ensures,
-    )
+returns c = (
+  ap (λ (x : Marked). x.line) c.mark_lines-j.ensures,
+  c.first_fault-f.ensures
+      ∙ ap (earlier c.mark_lines-j.result.fault)
+      (c.missing_fault.ensures ∙ ap (λ (t : Bool). cond t Fault.None Fault.Missing) c.is_complete.ensures)
+      ∙ ap last_fault c.mark_lines-j.ensures,
+)
 
 pub judge_with_spec : {M : Type 1} → statement M
 judge_with_spec =
     tie.close
-    (tie.spec (λ c κs. search rules) (λ c κs. search rules) (λ c κs. search rules) (λ c κs. search rules) (λ c. search rules) returns)
+    (tie.spec (λ c κs. search rules) (λ c κs. search rules) (λ c κs. search rules) (λ c κs. search rules) (λ c. search rules)
+    returns)

@@ -3,17 +3,14 @@ use Rattle.stating.specs.Rows.{mark_line}
 use Rattle.stating.proofs.marks.mark_line.Statement.{statement}
 use Rattle.stating.proofs.marks.mark_line.Tie as tie
 
-returns : tie.Need-returns
+returns : tie.Need-returns-then-is_found
 unfolding mark_line
-returns c = rw (← c.before.is_found.ensures, c.if1.true)
+returns c = rw (← c.is_found.ensures, c.if-is_found.true)
 
-returns_2 : tie.Need-returns-2
+returns_2 : tie.Need-returns
 unfolding mark_line
 returns_2 c =
-    let m = c.before.before in
-    let l = m.before.before in
-    let e = l.before in
-    rw (← e.before.is_found.ensures, e.if1.false, ← l.read-line.ensures) m.mark-row.ensures
+    rw (← c.is_found.ensures, c.if-is_found.false, ← c.read_line.ensures) c.mark_row.ensures
 
 pub mark_line_spec : {M : Type 1} → statement M
 mark_line_spec =

@@ -14,9 +14,7 @@ next n f marks = record { line = n + 1; fault = f; marks = marks }
 returns : tie.Need-returns
 unfolding mark_row
 returns c =
-    let m = c.before.before.before in
-    let f = m.before.before in
-    ap₂ (next f.before.before.before.args.j.line) f.statement-fault.ensures m.mark.ensures
+    ap₂ (next c.args.j.line) c.statement_fault-f.ensures c.mark.ensures
 
 pub mark_row_spec : {M : Type 1} → statement M
 mark_row_spec = tie.close (tie.spec (λ c κs. search rules) (λ c κs. search rules) (λ c. search rules) (λ c. search rules) returns)

@@ -10,64 +10,52 @@ use Rattle.stating.proofs.marks.row_fault.Statement.{statement}
 use Rattle.stating.proofs.marks.row_fault.Tie as tie
 
 -- the row is one of the sheet's
-is_row : (c : tie.Else2)
-    → let a = c.before.before.before.before.before.before.args in row_number a.l < rows_for a.c a.l.word
+is_row : (c : tie.Else-rows_for-n)
+    → let a = c.args in row_number a.l < rows_for a.c a.l.word
 is_row c =
-    let f = c.before in
-    omega (arith, c.if2.false, f.rows-for.ensures, f.before.row_number.ensures.0)
+    omega (arith, c.if-rows_for-n.false, c.rows_for.ensures, c.row_number-n.ensures.0)
 
 -- and its mark stands where the code looks
-place : (c : tie.After-rows-ahead)
-    → let a = c.before.before.before.before.before.before.before.args in
-    row_place a.c a.l ≡ c.rows-ahead.result + c.before.before.before.row_number.result
-place c = omega (arith, c.rows-ahead.ensures.0, c.before.before.before.row_number.ensures.0)
+place : (c : tie.After-rows_ahead)
+    → let a = c.args in
+    row_place a.c a.l ≡ c.rows_ahead.result + c.row_number-n.result
+place c = omega (arith, c.rows_ahead.ensures.0, c.row_number-n.ensures.0)
 
-returns : tie.Need-returns
-returns c = rw (eq-eqb _ _ c.if1.true)
+returns : tie.Need-returns-then-l-eq0
+returns c = rw (eq-eqb _ _ c.if-l-eq0.true)
 
-returns_2 : tie.Need-returns-2
+returns_2 : tie.Need-returns-then-rows_for-n
 unfolding row_fault
 returns_2 c =
-    let f = c.before in
-    let n = f.before in
-    let e = n.before in
-    let a = e.before.before.before.args in
+    let a = c.args in
     let h : rows_for a.c a.l.word ≤ row_number a.l =
-    omega (arith, c.if2.true, f.rows-for.ensures, n.row_number.ensures.0) in
-    rw (ne_eqb a.l.word 0 e.if1.false, le-ltb (row_number a.l) (rows_for a.c a.l.word) h)
+    omega (arith, c.if-rows_for-n.true, c.rows_for.ensures, c.row_number-n.ensures.0) in
+    rw (ne_eqb a.l.word 0 c.if-l-eq0.false, le-ltb (row_number a.l) (rows_for a.c a.l.word) h)
 
-shared_slice_read_if3 : tie.Need-shared-slice-read-if3
+shared_slice_read_if3 : tie.Need-bounds-marks-rows_ahead
 shared_slice_read_if3 c =
-    let r = c.before in
-    let s = r.before.before.before.before.before.before.before in
-    omega (arith, place_within s.args.c s.args.l (is_row r.before), s.requires.long, place r)
+    omega (arith, place_within c.args.c c.args.l (is_row c.before.before), c.requires.long, place c.before)
 
-returns_3 : tie.Need-returns-3
+returns_3 : tie.Need-returns-then-marks-rows_ahead-eq0
 unfolding row_fault
 returns_3 c =
-    let r = c.before.before in
-    let g = r.before in
-    let e = g.before.before.before in
-    let a = e.before.before.before.args in
+    let a = c.args in
     let m = a.marks.now in
     rw (
-      ne_eqb a.l.word 0 e.if1.false,
-      lt-ltb (row_number a.l) (rows_for a.c a.l.word) (is_row g),
-      eq-eqb (at m (row_place a.c a.l)) 0 (ap (at m) (place r) ∙ c.if3.true),
+      ne_eqb a.l.word 0 c.if-l-eq0.false,
+      lt-ltb (row_number a.l) (rows_for a.c a.l.word) (is_row c.before.before.before),
+      eq-eqb (at m (row_place a.c a.l)) 0 (ap (at m) (place c.before.before) ∙ c.if-marks-rows_ahead-eq0.true),
     )
 
-returns_4 : tie.Need-returns-4
+returns_4 : tie.Need-returns-else-marks-rows_ahead-eq0
 unfolding row_fault
 returns_4 c =
-    let r = c.before.before in
-    let g = r.before in
-    let e = g.before.before.before in
-    let a = e.before.before.before.args in
+    let a = c.args in
     let m = a.marks.now in
     rw (
-      ne_eqb a.l.word 0 e.if1.false,
-      lt-ltb (row_number a.l) (rows_for a.c a.l.word) (is_row g),
-      ne_eqb (at m (row_place a.c a.l)) 0 (λ q. c.if3.false (sym (ap (at m) (place r)) ∙ q)),
+      ne_eqb a.l.word 0 c.if-l-eq0.false,
+      lt-ltb (row_number a.l) (rows_for a.c a.l.word) (is_row c.before.before.before),
+      ne_eqb (at m (row_place a.c a.l)) 0 (λ q. c.if-marks-rows_ahead-eq0.false (sym (ap (at m) (place c.before.before)) ∙ q)),
     )
 
 pub row_fault_spec : {M : Type 1} → statement M

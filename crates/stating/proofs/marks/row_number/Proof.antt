@@ -6,13 +6,13 @@ use Rattle.stating.specs.Rows.{row_number}
 use Rattle.stating.proofs.marks.row_number.Statement.{statement}
 use Rattle.stating.proofs.marks.row_number.Tie as tie
 
-returns : tie.Need-returns
+returns : tie.Need-returns-then-l-eq5
 unfolding row_number
-returns c = rw (eq-eqb _ _ c.if1.true) (refl, omega arith)
+returns c = rw (eq-eqb _ _ c.if-l-eq5.true) (refl, omega arith)
 
-returns_2 : tie.Need-returns-2
+returns_2 : tie.Need-returns-else-l-eq5
 unfolding row_number
-returns_2 c = rw (ne_eqb _ _ c.before.if1.false) c.index.ensures
+returns_2 c = rw (ne_eqb _ _ c.if-l-eq5.false) c.index.ensures
 
 pub row_number_spec : {M : Type 1} → statement M
 row_number_spec = tie.close (tie.spec (λ c. search rules) (λ c κs. search rules) returns returns_2)

@@ -23,9 +23,8 @@ most c k h =
 returns : tie.Need-returns
 unfolding rows_ahead
 returns c =
-    let at_start = c.before.before.before.before in
-    let e = c.by_word_lem.ensures in
-    (e, rw e (most at_start.args.c at_start.args.k at_start.requires))
+    let e = c.by_word.ensures in
+    (e, rw e (most c.args.c c.args.k c.requires))
 
 pub rows_ahead_spec : {M : Type 1} → statement M
 rows_ahead_spec =

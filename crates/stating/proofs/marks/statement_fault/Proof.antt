@@ -12,14 +12,11 @@ use Rattle.stating.proofs.marks.statement_fault.Tie as tie
 returns : tie.Need-returns
 unfolding statement_fault
 returns c =
-    let f = c.before in
-    let w = f.before in
-    let k = w.before in
-    let l = k.before.before.before.args.l in
-    c.first-fault.ensures
+    let l = c.args.l in
+    c.first_fault.ensures
     ∙ ap₂ earlier
-    (w.line-fault.ensures ∙ ap (λ (n : ℕ). line_fault (not (eqb l.word 2)) n l) k.asked.ensures)
-    f.row-fault.ensures
+    (c.line_fault-own.ensures ∙ ap (λ (n : ℕ). line_fault (not (eqb l.word 2)) n l) c.asked.ensures)
+    c.row_fault.ensures
 
 pub statement_fault_spec : {M : Type 1} → statement M
 statement_fault_spec =

@@ -12,32 +12,51 @@ use Rattle.typing.proofs.Putting.{few_rows_lem}
 use Rattle.typing.proofs.texts.put_text.Statement.{statement}
 use Rattle.typing.proofs.texts.put_text.Tie as tie
 
+-- ways back: X_to_Y leads from the place X of the code to the earlier place Y
+abbrev struct_known_1_to_start : tie.After-struct_known-1 → tie.Start
+struct_known_1_to_start c = c.before.before.before
+
+abbrev struct_known_2_1_to_start : tie.After-struct_known-2-1 → tie.Start
+struct_known_2_1_to_start c = c.before.before.before.before
+
+abbrev put_section_arg_1_to_start : tie.After-put_section-arg-1 → tie.Start
+put_section_arg_1_to_start c = struct_known_2_1_to_start c.before
+
+abbrev put_section_arg_2_1_to_start : tie.After-put_section-arg-2-1 → tie.Start
+put_section_arg_2_1_to_start c = put_section_arg_1_to_start c.before.before.before.before
+
+abbrev put_section_arg_3_1_to_start : tie.After-put_section-arg-3-1 → tie.Start
+put_section_arg_3_1_to_start c = put_section_arg_2_1_to_start c.before.before.before.before
+
+abbrev put_section_arg_4_1_to_start : tie.After-put_section-arg-4-1 → tie.Start
+put_section_arg_4_1_to_start c = put_section_arg_3_1_to_start c.before.before.before.before
+
 few : (c : tie.Start) → Few c.args.c
 few c = few_rows_lem c.args.bytes.now c.args.c c.requires.0
 
 add_b : tie.Need-overflow_add-b
-add_b c = let f = few c.before.before.before in omega (arith, f.agents, f.boundaries)
+add_b c = let f = few (struct_known_1_to_start c) in omega (arith, f.agents, f.boundaries)
 
 add_p : tie.Need-overflow_add-p
-add_p c = let f = few c.before.before.before.before in omega (arith, f.agents, f.boundaries, f.plants)
+add_p c = let f = few (struct_known_2_1_to_start c) in omega (arith, f.agents, f.boundaries, f.plants)
 
 put_section_requires : tie.Need-put_section-i-requires
 put_section_requires c κs =
-    let f = few c.before.before.before.before.before in
+    let f = few (put_section_arg_1_to_start c) in
     (omega arith, omega arith, omega (arith, f.agents, f.boundaries, f.plants, f.contracts))
 
 put_section_requires_2 : tie.Need-put_section-j-requires
 put_section_requires_2 c κs =
-    let f = few c.before.before.before.before.before.before.before.before.before in
+    let f = few (put_section_arg_2_1_to_start c) in
     (omega arith, omega arith, omega (arith, f.agents, f.boundaries, f.plants))
 
 put_section_requires_3 : tie.Need-put_section-k-requires
 put_section_requires_3 c κs =
-    let f = few c.before.before.before.before.before.before.before.before.before.before.before.before.before in
+    let f = few (put_section_arg_3_1_to_start c) in
     (omega arith, omega arith, omega (arith, f.agents, f.boundaries))
 
 put_section_requires_4 : tie.Need-put_section-requires
-put_section_requires_4 c κs = let f = few c.before.before.before.before.before.before.before.before.before.before.before.before.before.before.before.before.before in (omega arith, omega arith, omega (arith, f.agents))
+put_section_requires_4 c κs = let f = few (put_section_arg_4_1_to_start c) in (omega arith, omega arith, omega (arith, f.agents))
 
 returns : tie.Need-returns
 unfolding sheet_text rows_in rows_before

@@ -19,6 +19,10 @@ abbrev decreases_loop : tie.decreases-loop-i
 decreases_loop agents boundaries plants contracts section n i₀ i =
     n - i
 
+-- ways back: X_to_Y leads from the place X of the code to the earlier place Y
+abbrev in_loop_i_to_start : tie.In-loop-i invariant_loop decreases_loop → tie.Start invariant_loop decreases_loop
+in_loop_i_to_start c = c.before.before.before.before.before.before
+
 abbrev given : tie.Start invariant_loop decreases_loop → Numbers
 given c = numbers c.args.agents.now c.args.boundaries.now c.args.plants.now c.args.contracts.now
 
@@ -28,7 +32,7 @@ loop_holds c = (search rules, from_start _ _)
 row_listed_requires : tie.Need-row_listed-v-requires invariant_loop decreases_loop
 row_listed_requires c κs =
     let l = rw c.requires.1 at c.loop-i-test.true in
-    (l, omega (arith, rows_small (given c.before.before.before.before.before.before) c.args.section c.requires.0, l))
+    (l, omega (arith, rows_small (given (in_loop_i_to_start c)) c.args.section c.requires.0, l))
 
 enum_told : tie.Need-enum_told-1 invariant_loop decreases_loop
 enum_told c = search rules

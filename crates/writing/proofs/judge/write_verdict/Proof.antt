@@ -18,27 +18,76 @@ use borrow.Author.Rules.{rules}
 use Rattle.writing.proofs.judge.write_verdict.Statement.{statement}
 use Rattle.writing.proofs.judge.write_verdict.Tie as tie
 
+-- ways back: X_to_Y leads from the place X of the code to the earlier place Y
+abbrev in_default_p_to_in_fine : tie.In_default-p → tie.In-Fine
+in_default_p_to_in_fine c = c.before.before.before.before
+
+abbrev in_default_to_counts_in_c : tie.In_default → tie.After-counts_in-c
+in_default_to_counts_in_c c = c.before.before.before.before
+
+abbrev in_fine_to_counts_in_c : tie.In-Fine → tie.After-counts_in-c
+in_fine_to_counts_in_c c = c.before.before.before.before
+
+abbrev or_else_to_in_fine_b : tie.After-or_else → tie.In-Fine-b
+or_else_to_in_fine_b c = c.before.before.before.before
+
+abbrev in_default_b_to_counts_in_c : tie.In_default-b → tie.After-counts_in-c
+in_default_b_to_counts_in_c c = in_fine_to_counts_in_c c.before.before
+
+abbrev in_fine_b_to_counts_in_c : tie.In-Fine-b → tie.After-counts_in-c
+in_fine_b_to_counts_in_c c = in_fine_to_counts_in_c c.before.before
+
+abbrev or_else_to_in_fine : tie.After-or_else → tie.In-Fine
+or_else_to_in_fine c = c.before.before.before.before.before.before
+
+abbrev counts_in_c_to_start : tie.After-counts_in-c → tie.Start
+counts_in_c_to_start c = c.before.before.before.before.before.before.before
+
+abbrev in_default_p_to_counts_in_c : tie.In_default-p → tie.After-counts_in-c
+in_default_p_to_counts_in_c c = in_fine_b_to_counts_in_c c.before.before
+
+abbrev in_fine_p_to_counts_in_c : tie.In-Fine-p → tie.After-counts_in-c
+in_fine_p_to_counts_in_c c = in_fine_b_to_counts_in_c c.before.before
+
+abbrev or_else_to_unless_short : tie.After-or_else → tie.After-unless-short
+or_else_to_unless_short c = c.before.before.before.before.before.before.before.before
+
+abbrev unless_short_to_start : tie.After-unless-short → tie.Start
+unless_short_to_start c = counts_in_c_to_start c.before.before
+
+abbrev or_else_to_counts_in_c : tie.After-or_else → tie.After-counts_in-c
+or_else_to_counts_in_c c = in_fine_p_to_counts_in_c c.before.before
+
+abbrev in_fine_to_start : tie.In-Fine → tie.Start
+in_fine_to_start c = unless_short_to_start c.before.before
+
+abbrev in_fine_b_to_start : tie.In-Fine-b → tie.Start
+in_fine_b_to_start c = in_fine_to_start c.before.before
+
+abbrev in_fine_p_to_start : tie.In-Fine-p → tie.Start
+in_fine_p_to_start c = in_fine_b_to_start c.before.before
+
 abbrev given : tie.Start → Numbers
 given c = numbers c.args.agents.now c.args.boundaries.now c.args.plants.now c.args.contracts.now
 
 -- what is known once each check has passed
-lists_fine : (c : tie.After-counts_in-c) → lists_good (given c.before.before.before.before.before.before.before) ≡ true
+lists_fine : (c : tie.After-counts_in-c) → lists_good (given (counts_in_c_to_start c)) ≡ true
 lists_fine c =
-    let l = c.lists_good in sym l.ensures ∙ c.if-not-lists_good.false
+    sym c.lists_good.ensures ∙ c.if-not-lists_good.false
 
-first_fine : (c : tie.In-Fine) → section_listed (given c.before.before.before.before.before.before.before.before.before.before.before) 1 ≡ Verdict.Fine
+first_fine : (c : tie.In-Fine) → section_listed (given (in_fine_to_start c)) 1 ≡ Verdict.Fine
 first_fine c = sym c.section_listed-a.ensures ∙ c.in-Fine.is
 
-second_fine : (c : tie.In-Fine-b) → section_listed (given c.before.before.before.before.before.before.before.before.before.before.before.before.before) 2 ≡ Verdict.Fine
+second_fine : (c : tie.In-Fine-b) → section_listed (given (in_fine_b_to_start c)) 2 ≡ Verdict.Fine
 second_fine c = sym c.section_listed-b.ensures ∙ c.in-Fine-b.is
 
-third_fine : (c : tie.In-Fine-p) → section_listed (given c.before.before.before.before.before.before.before.before.before.before.before.before.before.before.before) 3 ≡ Verdict.Fine
+third_fine : (c : tie.In-Fine-p) → section_listed (given (in_fine_p_to_start c)) 3 ≡ Verdict.Fine
 third_fine c = sym c.section_listed-p.ensures ∙ c.in-Fine-p.is
 
 -- the verdict on the room
 short_is : (c : tie.After-unless-short)
     → c.unless-short.result
-    ≡ refused_unless (leb (sheet_length (counts_in (given c.before.before.before.before.before.before.before.before.before))) c.args.room) no_room 0
+    ≡ refused_unless (leb (sheet_length (counts_in (given (unless_short_to_start c)))) c.args.room) no_room 0
 short_is c =
     let size = c.size.ensures ∙ ap sheet_length c.counts_in-c.ensures in
     c.unless-short.ensures ∙ ap (λ (n : ℕ). refused_unless (leb n c.args.room) no_room 0) size
@@ -46,12 +95,11 @@ short_is c =
 returns : tie.Need-returns-then-not-lists_good
 unfolding write_verdict
 returns c =
-    let l = c.lists_good in
-    rw (← l.ensures, c.if-not-lists_good.true) c.refuse.ensures
+    rw (← c.lists_good.ensures, c.if-not-lists_good.true) c.refuse.ensures
 
 size_requires : tie.Need-size-requires
 size_requires c κs =
-    rw c.counts_in-c.ensures (lists_small (given c.before.before.before.before.before.before.before) (lists_fine c))
+    rw c.counts_in-c.ensures (lists_small (given (counts_in_c_to_start c)) (lists_fine c))
 
 section_listed_requires : tie.Need-section_listed-a-requires
 unfolding rows_in
@@ -64,12 +112,12 @@ enum_told c = search rules
 returns_2 : tie.Need-returns-in_default
 unfolding write_verdict
 returns_2 c =
-    rw (lists_fine c.before.before.before.before, ← c.section_listed-a.ensures, c.in_default.is)
+    rw (lists_fine (in_default_to_counts_in_c c), ← c.section_listed-a.ensures, c.in_default.is)
 
 section_listed_requires_2 : tie.Need-section_listed-b-requires
 unfolding rows_in
 section_listed_requires_2 c κs = (
-  lists_fine c.before.before.before.before,
+  lists_fine (in_fine_to_counts_in_c c),
   ap (λ (k : Counts). k.boundaries) c.counts_in-c.ensures,
 )
 
@@ -77,7 +125,7 @@ returns_3 : tie.Need-returns-in_default-b
 unfolding write_verdict
 returns_3 c =
     rw (
-      lists_fine c.before.before.before.before.before.before,
+      lists_fine (in_default_b_to_counts_in_c c),
       first_fine c.before.before,
       ← c.section_listed-b.ensures,
       c.in_default-b.is,
@@ -86,7 +134,7 @@ returns_3 c =
 section_listed_requires_3 : tie.Need-section_listed-p-requires
 unfolding rows_in
 section_listed_requires_3 c κs = (
-  lists_fine c.before.before.before.before.before.before,
+  lists_fine (in_fine_b_to_counts_in_c c),
   ap (λ (k : Counts). k.plants) c.counts_in-c.ensures,
 )
 
@@ -94,8 +142,8 @@ returns_4 : tie.Need-returns-in_default-p
 unfolding write_verdict
 returns_4 c =
     rw (
-      lists_fine c.before.before.before.before.before.before.before.before,
-      first_fine c.before.before.before.before,
+      lists_fine (in_default_p_to_counts_in_c c),
+      first_fine (in_default_p_to_in_fine c),
       second_fine c.before.before,
       ← c.section_listed-p.ensures,
       c.in_default-p.is,
@@ -104,7 +152,7 @@ returns_4 c =
 section_listed_requires_4 : tie.Need-section_listed-k-requires
 unfolding rows_in
 section_listed_requires_4 c κs = (
-  lists_fine c.before.before.before.before.before.before.before.before,
+  lists_fine (in_fine_p_to_counts_in_c c),
   ap (λ (k : Counts). k.contracts) c.counts_in-c.ensures,
 )
 
@@ -112,13 +160,13 @@ returns_5 : tie.Need-returns
 unfolding write_verdict
 returns_5 c =
     rw (
-      lists_fine c.before.before.before.before.before.before.before.before.before.before,
-      first_fine c.before.before.before.before.before.before,
-      second_fine c.before.before.before.before,
+      lists_fine (or_else_to_counts_in_c c),
+      first_fine (or_else_to_in_fine c),
+      second_fine (or_else_to_in_fine_b c),
       third_fine c.before.before,
       c.or_else.ensures,
       c.section_listed-k.ensures,
-      short_is c.before.before.before.before.before.before.before.before,
+      short_is (or_else_to_unless_short c),
       else_fine,
     )
 
