@@ -15,27 +15,33 @@ use Rattle.checking.proofs.Refusing.{turned, points_left, weighs}
 use Rattle.checking.proofs.check_read.Statement.{statement}
 use Rattle.checking.proofs.check_read.Tie as tie
 
--- ways back: X-to-Y leads from the place X of the code to the earlier place Y
-abbrev kinds_to_start : tie.After-kinds → tie.Start
-kinds_to_start c = c.before.before.before.before.before
+-- ways back: X_to_Y leads from the place X of the code to the earlier place Y
+abbrev in_default_to_start : tie.In_default → tie.Start
+in_default_to_start c = c.before.before.before.before.before.before.before.before.before.before.before
 
-abbrev admit_to_start : tie.After-admit → tie.Start
-admit_to_start c = kinds_to_start c.before.before.before.before.before
+abbrev in_fine_to_start : tie.In-Fine → tie.Start
+in_fine_to_start c = c.before.before.before.before.before.before.before.before.before.before.before
 
-abbrev told_to_admit : tie.After-enum-told → tie.After-admit
-told_to_admit c = c.before.before
+abbrev injected_3_1_to_in_fine : tie.After-injected-3-1 → tie.In-Fine
+injected_3_1_to_in_fine c = c.before.before.before.before.before.before.before.before.before.before.before.before.before.before
 
-abbrev told_to_start : tie.After-enum-told → tie.Start
-told_to_start c = admit_to_start (told_to_admit c)
+abbrev used_1_to_start : tie.After-used-1 → tie.Start
+used_1_to_start c = in_fine_to_start c.before.before.before
 
-abbrev used_to_told : tie.After-used → tie.After-enum-told
-used_to_told c = c.before.before.before
+abbrev injected_3_1_to_admit_w : tie.After-injected-3-1 → tie.After-admit-w
+injected_3_1_to_admit_w c = c.before.before.before.before.before.before.before.before.before.before.before.before.before.before.before
 
-abbrev injected_to_used : tie.After-injected → tie.After-used
-injected_to_used c = c.before.before.before.before.before
+abbrev points_to_in_fine : tie.After-points → tie.In-Fine
+points_to_in_fine c = injected_3_1_to_in_fine c.before
 
-abbrev injected3_to_injected : tie.After-injected3 → tie.After-injected
-injected3_to_injected c = c.before.before.before.before.before.before
+abbrev injected_1_to_start : tie.After-injected-1 → tie.Start
+injected_1_to_start c = used_1_to_start c.before.before.before.before.before
+
+abbrev injected_3_1_to_start : tie.After-injected-3-1 → tie.Start
+injected_3_1_to_start c = injected_1_to_start c.before.before.before.before.before.before
+
+abbrev points_to_start : tie.After-points → tie.Start
+points_to_start c = injected_3_1_to_start c.before
 
 abbrev lists : tie.Start → Lent
 lists c = let a = c.args in lent a.figures.now a.money.now a.schedule.now a.amounts.now
@@ -46,48 +52,40 @@ sheet c = columns_of c.args.bytes.now c.args.c
 few : (c : tie.Start) → c.args.c.agents ≤ most_agents
 few c = (accepted_few _ _ c.requires).agents
 
-returns : tie.Need-returns
+returns : tie.Need-returns-in_default
 returns c =
-    let a = c.before.before in
-    let s = admit_to_start a in
-    c.enum-told2.given.1
-    ∙ sym (turned (sheet s) s.args.price (lists s) _ (sym a.admit.ensures.answer ∙ c.enum-told2.given.1))
+    c.in_default.is
+    ∙ sym (turned (sheet (in_default_to_start c)) c.args.price (lists (in_default_to_start c)) _ (sym c.admit-w.ensures.answer ∙ c.in_default.is))
 
 -- ---- an hour that nothing turns away
-fine : (c : tie.After-enum-told) → hour_verdict (sheet (told_to_start c)) (lists (told_to_start c)) ≡ Verdict.Fine
-fine c = sym (told_to_admit c).admit.ensures.answer ∙ c.enum_told.given.1
+fine : (c : tie.In-Fine) → hour_verdict (sheet (in_fine_to_start c)) (lists (in_fine_to_start c)) ≡ Verdict.Fine
+fine c = sym c.admit-w.ensures.answer ∙ c.in-Fine.is
 
-abbrev columns : tie.After-admit → Ledger
+abbrev columns : tie.After-admit-w → Ledger
 columns c =
-    let l = c.admit.new.1.1 in ledger l.0 l.1.0 l.1.1.0 l.1.1.1.0 l.1.1.1.1.0
+    ledger c.admit-w.new.kinds c.admit-w.new.shares c.admit-w.new.commercial c.admit-w.new.own c.admit-w.new.imports
 
 differences_requires : tie.Need-differences-requires
-differences_requires c κs = let s = told_to_start (used_to_told c) in (few s, few s)
+differences_requires c κs = (few (used_1_to_start c), few (used_1_to_start c))
 
 differences_requires_2 : tie.Need-differences-requires-2
-differences_requires_2 c κs = let s = told_to_start (used_to_told (injected_to_used c)) in (few s, few s)
+differences_requires_2 c κs = (few (injected_1_to_start c), few (injected_1_to_start c))
 
 points_requires : tie.Need-points-requires
 points_requires c κs =
-    let i = injected3_to_injected c in
-    let u = injected_to_used i in
-    let t = used_to_told u in
-    let s = told_to_start t in
-    let w = (told_to_admit t).admit.ensures in (
-      s.pre,
+    let w = c.admit-w.ensures in (
+      c.requires,
       (
-        fine_room _ _ (fine t),
-        weighs (sheet s) _ (agents_long _ _) _ (columns (told_to_admit t)) _ (w.columns (fine t)) (rw (fine t) at w.losses) _ _
-            i.before.before.before.before.differences.ensures
-            c.before.before.before.before.before.differences2.ensures,
+        fine_room _ _ (fine (injected_3_1_to_in_fine c)),
+        weighs (sheet (injected_3_1_to_start c)) _ (agents_long _ _) _ (columns (injected_3_1_to_admit_w c)) _ (w.columns (fine (injected_3_1_to_in_fine c))) (rw (fine (injected_3_1_to_in_fine c)) at w.losses) _ _
+            c.differences.ensures
+            c.differences-2.ensures,
       ),
     )
 
-returns_2 : tie.Need-returns-2
+returns_2 : tie.Need-returns
 returns_2 c =
-    let t = used_to_told (injected_to_used (injected3_to_injected c.before)) in
-    let s = told_to_start t in
-    c.points.ensures ∙ sym (points_left (sheet s) s.args.price (lists s) (fine t))
+    c.points.ensures ∙ sym (points_left (sheet (points_to_start c)) c.args.price (lists (points_to_start c)) (fine (points_to_in_fine c)))
 
 pub check_read_spec : {M : Type 1} → statement M
 check_read_spec =

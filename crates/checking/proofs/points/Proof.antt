@@ -22,36 +22,36 @@ use Rattle.checking.proofs.Stating.{used_fits, shares_are, demand_fits, demands_
 use Rattle.checking.proofs.points.Statement.{statement}
 use Rattle.checking.proofs.points.Tie as tie
 
--- ways back: X-to-Y leads from the place X of the code to the earlier place Y
-abbrev shared_slice_known4_to_start : tie.After-shared-slice-known4 → tie.Start
-shared_slice_known4_to_start c = c.before.before.before.before
+-- ways back: X_to_Y leads from the place X of the code to the earlier place Y
+abbrev demands_2_1_to_else_not_good : tie.After-demands-2-1 → tie.Else-not-good
+demands_2_1_to_else_not_good c = c.before.before.before
 
-abbrev total_to_start : tie.After-total → tie.Start
-total_to_start c = c.before.before.before.before.before
+abbrev shared_slice_known_4_1_to_start : tie.After-shared_slice_known-4-1 → tie.Start
+shared_slice_known_4_1_to_start c = c.before.before.before.before
 
-abbrev good2_to_start : tie.After-good2 → tie.Start
-good2_to_start c = total_to_start c.before
+abbrev trades_to_else_not_good : tie.After-trades → tie.Else-not-good
+trades_to_else_not_good c = c.before.before.before.before
 
-abbrev else1_to_start : tie.Else1 → tie.Start
-else1_to_start c = good2_to_start c.before
+abbrev total_consumed_to_start : tie.After-total-consumed → tie.Start
+total_consumed_to_start c = c.before.before.before.before.before
 
-abbrev demands_to_start : tie.After-demands → tie.Start
-demands_to_start c = else1_to_start c.before
+abbrev good_to_start : tie.After-good → tie.Start
+good_to_start c = total_consumed_to_start c.before
+
+abbrev else_not_good_to_start : tie.Else-not-good → tie.Start
+else_not_good_to_start c = good_to_start c.before
+
+abbrev demands_1_to_start : tie.After-demands-1 → tie.Start
+demands_1_to_start c = good_to_start c.before.before
 
 abbrev refuse_to_start : tie.After-refuse → tie.Start
-refuse_to_start c = good2_to_start c.before.before
+refuse_to_start c = good_to_start c.before.before
 
-abbrev demands3_to_else1 : tie.After-demands3 → tie.Else1
-demands3_to_else1 c = c.before.before.before
-
-abbrev demands3_to_start : tie.After-demands3 → tie.Start
-demands3_to_start c = demands_to_start c.before.before
-
-abbrev trades_to_else1 : tie.After-trades → tie.Else1
-trades_to_else1 c = c.before.before.before.before
+abbrev demands_2_1_to_start : tie.After-demands-2-1 → tie.Start
+demands_2_1_to_start c = demands_1_to_start c.before.before
 
 abbrev trades_to_start : tie.After-trades → tie.Start
-trades_to_start c = demands3_to_start c.before
+trades_to_start c = demands_2_1_to_start c.before
 
 abbrev sheet : tie.Start → Sheet
 sheet c = columns_of c.args.bytes.now c.args.c
@@ -77,57 +77,57 @@ used c =
     )
 
 -- point 21, and that it passed
-shared : (c : tie.After-good2) → c.good2.result ≡ shares_good (sheet (good2_to_start c)) (lists (good2_to_start c))
+shared : (c : tie.After-good) → c.good.result ≡ shares_good (sheet (good_to_start c)) (lists (good_to_start c))
 shared c =
-    c.good2.ensures ∙ shares_are (sheet (good2_to_start c)) (ok (good2_to_start c)) (lists (good2_to_start c)) _ _ _ _
-    _ (good2_to_start c).requires.1.1 _ _ (count (good2_to_start c)) c.before.total.ensures
+    c.good.ensures ∙ shares_are (sheet (good_to_start c)) (ok (good_to_start c)) (lists (good_to_start c)) _ _ _ _
+    _ c.requires.1.1 _ _ (count (good_to_start c)) c.total-consumed.ensures
 
-passed_21 : (c : tie.Else1) → shares_good (sheet (else1_to_start c)) (lists (else1_to_start c)) ≡ true
-passed_21 c = sym (shared c.before) ∙ not-false c.before.good2.result c.if1.false
+passed_21 : (c : tie.Else-not-good) → shares_good (sheet (else_not_good_to_start c)) (lists (else_not_good_to_start c)) ≡ true
+passed_21 c = sym (shared c.before) ∙ c.if-not-good.false
 
-total_requires : tie.Need-total-requires
-total_requires c κs = (few (shared_slice_known4_to_start c), used (shared_slice_known4_to_start c))
+total_requires : tie.Need-total-consumed-requires
+total_requires c κs = (few (shared_slice_known_4_1_to_start c), used (shared_slice_known_4_1_to_start c))
 
 good_requires : tie.Need-good-requires
 good_requires c κs =
-    (few (total_to_start c), omega (arith, count (total_to_start c), (total_to_start c).requires.1.0.figures))
+    (few (total_consumed_to_start c), omega (arith, count (total_consumed_to_start c), c.requires.1.0.figures))
 
-returns : tie.Need-returns
+returns : tie.Need-returns-then-not-good
 returns c =
     c.refuse.ensures ∙ sym (points_21 (sheet (refuse_to_start c)) (ok (refuse_to_start c))
-    (lists (refuse_to_start c)) _ _ _ _ _ (refuse_to_start c).requires.1.1 _
-    (sym (shared c.before.before) ∙ not-true c.before.before.good2.result c.before.if1.true))
+    (lists (refuse_to_start c)) _ _ _ _ _ c.requires.1.1 _
+    (sym (shared c.before.before) ∙ c.if-not-good.true))
 
 demands_requires : tie.Need-demands-requires
 demands_requires c κs = (
   (
-    few (demands_to_start c),
-    omega (arith, count (demands_to_start c), (demands_to_start c).requires.1.0.figures),
-    few (demands_to_start c),
+    few (demands_1_to_start c),
+    omega (arith, count (demands_1_to_start c), c.requires.1.0.figures),
+    few (demands_1_to_start c),
   ),
-  λ a m. demand_fits (sheet (demands_to_start c)) (ok (demands_to_start c)) (lists (demands_to_start c)) _ _ _ _ _
-      (demands_to_start c).requires.1.1 (passed_21 c.before) a (omega (arith, count (demands_to_start c))),
+  λ a m. demand_fits (sheet (demands_1_to_start c)) (ok (demands_1_to_start c)) (lists (demands_1_to_start c)) _ _ _ _ _
+      c.requires.1.1 (passed_21 c.before) a (omega (arith, count (demands_1_to_start c))),
 )
 
 trades_requires : tie.Need-trades-requires
 trades_requires c κs = (
-  (demands3_to_start c).requires.0,
+  c.requires.0,
   (
-    (demands3_to_start c).requires.1.0,
-    demands_are (sheet (demands3_to_start c)) (ok (demands3_to_start c)) (lists (demands3_to_start c)) _ _ _ _ _
-        (demands3_to_start c).requires.1.1 (passed_21 (demands3_to_else1 c)) _
-        (filled_count 0 _ _ _ _ _ (sym (count (demands3_to_start c))) c.before.demands2.ensures),
-    c.before.demands2.ensures.long,
+    c.requires.1.0,
+    demands_are (sheet (demands_2_1_to_start c)) (ok (demands_2_1_to_start c)) (lists (demands_2_1_to_start c)) _ _ _ _ _
+        c.requires.1.1 (passed_21 (demands_2_1_to_else_not_good c)) _
+        (filled_count 0 _ _ _ _ _ (sym (count (demands_2_1_to_start c))) c.demands.ensures),
+    c.demands.ensures.long,
   ),
 )
 
-returns_2 : tie.Need-returns-2
+returns_2 : tie.Need-returns
 returns_2 c =
     c.trades.ensures ∙ sym (points_on (sheet (trades_to_start c)) (ok (trades_to_start c))
-    (lists (trades_to_start c)) _ _ _ _ _ (trades_to_start c).requires.1.1 (passed_21 (trades_to_else1 c)) _)
+    (lists (trades_to_start c)) _ _ _ _ _ c.requires.1.1 (passed_21 (trades_to_else_not_good c)) _)
 
 pub points_spec : {M : Type 1} → statement M
 points_spec =
     tie.close
-    (tie.spec total_requires good_requires (λ c κs. search rules) returns (λ c. search rules) demands_requires
-    trades_requires returns_2)
+    (tie.spec total_requires good_requires (λ c κs. search rules) returns (λ c. search rules) demands_requires trades_requires
+    returns_2)

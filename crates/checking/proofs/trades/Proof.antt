@@ -28,159 +28,120 @@ use Rattle.checking.proofs.Stating.{trades_22, trades_23, trades_24, trades_25, 
 use Rattle.checking.proofs.trades.Statement.{statement}
 use Rattle.checking.proofs.trades.Tie as tie
 
--- ways back: X-to-Y leads from the place X of the code to the earlier place Y
-abbrev demands_to_start : tie.After-demands → tie.Start
-demands_to_start c = c.before.before.before.before.before
+-- ways back: X_to_Y leads from the place X of the code to the earlier place Y
+abbrev else_not_v_to_judge_v : tie.Else-not-v → tie.After-judge-v
+else_not_v_to_judge_v c = c.before.before.before
 
-abbrev total_to_start : tie.After-total → tie.Start
-total_to_start c = demands_to_start c.before
+abbrev refuse_then_not_follow_to_judge_follow : tie.After-refuse-then-not-follow → tie.After-judge-follow
+refuse_then_not_follow_to_judge_follow c = c.before.before.before
 
-abbrev total2_to_start : tie.After-total2 → tie.Start
-total2_to_start c = total_to_start c.before
+abbrev refuse_then_price_v_to_else_not_v : tie.After-refuse-then-price-v → tie.Else-not-v
+refuse_then_price_v_to_else_not_v c = c.before.before.before
 
-abbrev less_wide_to_start : tie.After-less-wide → tie.Start
-less_wide_to_start c = total2_to_start c.before.before
+abbrev refuse_to_judge_v : tie.After-refuse → tie.After-judge-v
+refuse_to_judge_v c = c.before.before.before.before
 
-abbrev own_to_start : tie.After-own → tie.Start
-own_to_start c = less_wide_to_start c.before.before
+abbrev then_good_to_else_not_follow : tie.Then-good → tie.Else-not-follow
+then_good_to_else_not_follow c = c.before.before.before.before
 
-abbrev own3_to_start : tie.After-own3 → tie.Start
-own3_to_start c = own_to_start c.before.before.before
+abbrev demands_1_to_start : tie.After-demands-1 → tie.Start
+demands_1_to_start c = c.before.before.before.before.before
 
-abbrev judge_to_together : tie.After-judge → tie.After-together
-judge_to_together c = c.before.before.before
+abbrev refuse_2_to_else_not_follow : tie.After-refuse-2 → tie.Else-not-follow
+refuse_2_to_else_not_follow c = c.before.before.before.before.before
 
-abbrev judge_to_less_wide : tie.After-judge → tie.After-less-wide
-judge_to_less_wide c = c.before.before.before.before.before.before
+abbrev judge_v_to_less_wide_target : tie.After-judge-v → tie.After-less_wide-target
+judge_v_to_less_wide_target c = c.before.before.before.before.before.before
 
-abbrev judge_to_start : tie.After-judge → tie.Start
-judge_to_start c = own3_to_start c.before
+abbrev refuse_then_not_follow_to_else_price_v : tie.After-refuse-then-not-follow → tie.Else-price-v
+refuse_then_not_follow_to_else_price_v c = c.before.before.before.before.before.before
 
-abbrev else1_to_judge : tie.Else1 → tie.After-judge
-else1_to_judge c = c.before.before.before
+abbrev total_retailers_to_start : tie.After-total-retailers → tie.Start
+total_retailers_to_start c = demands_1_to_start c.before
 
-abbrev else1_to_start : tie.Else1 → tie.Start
-else1_to_start c = judge_to_start c.before.before.before
+abbrev total_generators_to_start : tie.After-total-generators → tie.Start
+total_generators_to_start c = total_retailers_to_start c.before
 
-abbrev refuse_to_judge : tie.After-refuse → tie.After-judge
-refuse_to_judge c = c.before.before.before.before
+abbrev refuse_then_not_follow_to_else_not_v : tie.After-refuse-then-not-follow → tie.Else-not-v
+refuse_then_not_follow_to_else_not_v c = c.before.before.before.before.before.before.before.before
+
+abbrev less_wide_target_to_start : tie.After-less_wide-target → tie.Start
+less_wide_target_to_start c = total_generators_to_start c.before.before
+
+abbrev then_good_to_else_price_v : tie.Then-good → tie.Else-price-v
+then_good_to_else_price_v c = c.before.before.before.before.before.before.before.before.before
+
+abbrev refuse_2_to_else_price_v : tie.After-refuse-2 → tie.Else-price-v
+refuse_2_to_else_price_v c = c.before.before.before.before.before.before.before.before.before.before
+
+abbrev else_price_v_to_less_wide_target : tie.Else-price-v → tie.After-less_wide-target
+else_price_v_to_less_wide_target c = judge_v_to_less_wide_target c.before.before.before.before.before
+
+abbrev own_1_to_start : tie.After-own-1 → tie.Start
+own_1_to_start c = less_wide_target_to_start c.before.before
+
+abbrev then_good_to_else_not_v : tie.Then-good → tie.Else-not-v
+then_good_to_else_not_v c = c.before.before.before.before.before.before.before.before.before.before.before
+
+abbrev refuse_2_to_else_not_v : tie.After-refuse-2 → tie.Else-not-v
+refuse_2_to_else_not_v c = c.before.before.before.before.before.before.before.before.before.before.before.before
+
+abbrev refuse_then_price_v_to_less_wide_target : tie.After-refuse-then-price-v → tie.After-less_wide-target
+refuse_then_price_v_to_less_wide_target c = judge_v_to_less_wide_target c.before.before.before.before.before.before
+
+abbrev judge_follow_to_less_wide_target : tie.After-judge-follow → tie.After-less_wide-target
+judge_follow_to_less_wide_target c = else_price_v_to_less_wide_target c.before.before.before
+
+abbrev own_3_1_to_start : tie.After-own-3-1 → tie.Start
+own_3_1_to_start c = own_1_to_start c.before.before.before
+
+abbrev judge_v_to_start : tie.After-judge-v → tie.Start
+judge_v_to_start c = own_3_1_to_start c.before
+
+abbrev else_not_v_to_start : tie.Else-not-v → tie.Start
+else_not_v_to_start c = judge_v_to_start c.before.before.before
+
+abbrev held_3_1_to_less_wide_target : tie.After-held-3-1 → tie.After-less_wide-target
+held_3_1_to_less_wide_target c = judge_follow_to_less_wide_target c.before.before.before.before
+
+abbrev good_to_less_wide_target : tie.After-good → tie.After-less_wide-target
+good_to_less_wide_target c = held_3_1_to_less_wide_target c.before
 
 abbrev refuse_to_start : tie.After-refuse → tie.Start
-refuse_to_start c = judge_to_start c.before.before.before.before
+refuse_to_start c = judge_v_to_start c.before.before.before.before
 
-abbrev else2_to_judge : tie.Else2 → tie.After-judge
-else2_to_judge c = c.before.before.before.before.before
+abbrev else_price_v_to_start : tie.Else-price-v → tie.Start
+else_price_v_to_start c = else_not_v_to_start c.before.before
 
-abbrev else2_to_together : tie.Else2 → tie.After-together
-else2_to_together c = (else2_to_judge c).before.before.before
+abbrev demands_3_1_to_start : tie.After-demands-3-1 → tie.Start
+demands_3_1_to_start c = else_price_v_to_start c.before
 
-abbrev else2_to_less_wide : tie.Else2 → tie.After-less-wide
-else2_to_less_wide c = (else2_to_together c).before.before.before
+abbrev refuse_then_price_v_to_start : tie.After-refuse-then-price-v → tie.Start
+refuse_then_price_v_to_start c = else_not_v_to_start c.before.before.before
 
-abbrev else2_to_start : tie.Else2 → tie.Start
-else2_to_start c = else1_to_start c.before.before
+abbrev held_1_to_start : tie.After-held-1 → tie.Start
+held_1_to_start c = demands_3_1_to_start c.before
 
-abbrev demands3_to_start : tie.After-demands3 → tie.Start
-demands3_to_start c = else2_to_start c.before
+abbrev judge_follow_to_start : tie.After-judge-follow → tie.Start
+judge_follow_to_start c = held_1_to_start c.before
 
-abbrev refuse2_to_else1 : tie.After-refuse2 → tie.Else1
-refuse2_to_else1 c = c.before.before.before
+abbrev else_not_follow_to_start : tie.Else-not-follow → tie.Start
+else_not_follow_to_start c = judge_follow_to_start c.before.before
 
-abbrev refuse2_to_judge : tie.After-refuse2 → tie.After-judge
-refuse2_to_judge c = c.before.before.before.before.before.before
+abbrev refuse_then_not_follow_to_start : tie.After-refuse-then-not-follow → tie.Start
+refuse_then_not_follow_to_start c = judge_follow_to_start c.before.before.before
 
-abbrev refuse2_to_together : tie.After-refuse2 → tie.After-together
-refuse2_to_together c = (refuse2_to_judge c).before.before.before
+abbrev held_3_1_to_start : tie.After-held-3-1 → tie.Start
+held_3_1_to_start c = else_not_follow_to_start c.before.before
 
-abbrev refuse2_to_less_wide : tie.After-refuse2 → tie.After-less-wide
-refuse2_to_less_wide c = (refuse2_to_together c).before.before.before
+abbrev good_to_start : tie.After-good → tie.Start
+good_to_start c = held_3_1_to_start c.before
 
-abbrev refuse2_to_start : tie.After-refuse2 → tie.Start
-refuse2_to_start c = else1_to_start c.before.before.before
+abbrev then_good_to_start : tie.Then-good → tie.Start
+then_good_to_start c = good_to_start c.before
 
-abbrev held_to_start : tie.After-held → tie.Start
-held_to_start c = demands3_to_start c.before
-
-abbrev judge2_to_judge : tie.After-judge2 → tie.After-judge
-judge2_to_judge c = else2_to_judge c.before.before.before
-
-abbrev judge2_to_together : tie.After-judge2 → tie.After-together
-judge2_to_together c = else2_to_together c.before.before.before
-
-abbrev judge2_to_less_wide : tie.After-judge2 → tie.After-less-wide
-judge2_to_less_wide c = else2_to_less_wide c.before.before.before
-
-abbrev judge2_to_start : tie.After-judge2 → tie.Start
-judge2_to_start c = held_to_start c.before
-
-abbrev else3_to_start : tie.Else3 → tie.Start
-else3_to_start c = judge2_to_start c.before.before
-
-abbrev refuse3_to_judge2 : tie.After-refuse3 → tie.After-judge2
-refuse3_to_judge2 c = c.before.before.before
-
-abbrev refuse3_to_else2 : tie.After-refuse3 → tie.Else2
-refuse3_to_else2 c = c.before.before.before.before.before.before
-
-abbrev refuse3_to_else1 : tie.After-refuse3 → tie.Else1
-refuse3_to_else1 c = (refuse3_to_else2 c).before.before
-
-abbrev refuse3_to_start : tie.After-refuse3 → tie.Start
-refuse3_to_start c = judge2_to_start c.before.before.before
-
-abbrev held3_to_else2 : tie.After-held3 → tie.Else2
-held3_to_else2 c = c.before.before.before.before.before.before.before
-
-abbrev held3_to_judge : tie.After-held3 → tie.After-judge
-held3_to_judge c = else2_to_judge (held3_to_else2 c)
-
-abbrev held3_to_together : tie.After-held3 → tie.After-together
-held3_to_together c = (held3_to_judge c).before.before.before
-
-abbrev held3_to_less_wide : tie.After-held3 → tie.After-less-wide
-held3_to_less_wide c = (held3_to_together c).before.before.before
-
-abbrev held3_to_start : tie.After-held3 → tie.Start
-held3_to_start c = else3_to_start c.before.before
-
-abbrev good2_to_judge2 : tie.After-good2 → tie.After-judge2
-good2_to_judge2 c = c.before.before.before.before.before
-
-abbrev good2_to_judge : tie.After-good2 → tie.After-judge
-good2_to_judge c = held3_to_judge c.before
-
-abbrev good2_to_together : tie.After-good2 → tie.After-together
-good2_to_together c = held3_to_together c.before
-
-abbrev good2_to_less_wide : tie.After-good2 → tie.After-less-wide
-good2_to_less_wide c = held3_to_less_wide c.before
-
-abbrev good2_to_start : tie.After-good2 → tie.Start
-good2_to_start c = held3_to_start c.before
-
-abbrev then4_to_else3 : tie.Then4 → tie.Else3
-then4_to_else3 c = c.before.before.before.before
-
-abbrev then4_to_else2 : tie.Then4 → tie.Else2
-then4_to_else2 c = held3_to_else2 c.before.before
-
-abbrev then4_to_else1 : tie.Then4 → tie.Else1
-then4_to_else1 c = (then4_to_else2 c).before.before
-
-abbrev then4_to_start : tie.Then4 → tie.Start
-then4_to_start c = good2_to_start c.before
-
-abbrev refuse4_to_else3 : tie.After-refuse4 → tie.Else3
-refuse4_to_else3 c = c.before.before.before.before.before
-
-abbrev refuse4_to_else2 : tie.After-refuse4 → tie.Else2
-refuse4_to_else2 c = held3_to_else2 c.before.before.before
-
-abbrev refuse4_to_else1 : tie.After-refuse4 → tie.Else1
-refuse4_to_else1 c = (refuse4_to_else2 c).before.before
-
-abbrev refuse4_to_start : tie.After-refuse4 → tie.Start
-refuse4_to_start c = good2_to_start c.before.before
+abbrev refuse_2_to_start : tie.After-refuse-2 → tie.Start
+refuse_2_to_start c = good_to_start c.before.before
 
 abbrev sheet : tie.Start → Sheet
 sheet c = columns_of c.args.bytes.now c.args.c
@@ -197,9 +158,9 @@ count c = agents_long _ _
 few : (c : tie.Start) → c.args.c.agents ≤ most_agents
 few c = (accepted_few _ _ c.requires.0).agents
 
-retailers : (c : tie.Start) → sum c.args.c.agents (at c.args.t4) ≤ room 1
+retailers : (c : tie.Start) → sum c.args.c.agents (at c.args.demands) ≤ room 1
 retailers c =
-    omega (arith, retailers_fit _ (ok c) _ _ _ _ _ c.requires.1.1, ap (λ (n : ℕ). sum n (at c.args.t4)) (count c))
+    omega (arith, retailers_fit _ (ok c) _ _ _ _ _ c.requires.1.1, ap (λ (n : ℕ). sum n (at c.args.demands)) (count c))
 
 generators : (c : tie.Start) → sum c.args.c.agents (at c.args.imports.now) ≤ room 1
 generators c =
@@ -209,7 +170,7 @@ generators c =
       ap (λ (n : ℕ). sum n (at c.args.imports.now)) (count c),
     )
 
-long : (c : tie.Start) → c.args.c.agents ≤ length c.args.t4
+long : (c : tie.Start) → c.args.c.agents ≤ length c.args.demands
 long c = omega (arith, few c, c.requires.1.2)
 
 smalls : (c : tie.Start) → sum c.args.c.agents (at c.args.injected.now) ≤ room 1
@@ -221,169 +182,166 @@ smalls c =
     )
 
 -- what the schedule is judged by is what dispatch has to meet of the demand with their shares
-target : (c : tie.After-less-wide)
-    → c.less-wide.result ≡ dispatch_demand_by (sheet (less_wide_to_start c))
-    (demand_in (sheet (less_wide_to_start c)) (lists (less_wide_to_start c)))
+target : (c : tie.After-less_wide-target)
+    → c.less_wide-target.result ≡ dispatch_demand_by (sheet (less_wide_target_to_start c))
+    (demand_in (sheet (less_wide_target_to_start c)) (lists (less_wide_target_to_start c)))
 target c =
-    let s = less_wide_to_start c in
-    c.less-wide.ensures
-    ∙ target_is (sheet s) (ok s) (lists s) _ _ _ _ s.pre.1.1 _ _ _
-    (c.before.before.before.total.ensures ∙ ap (λ (n : ℕ). sum n (at s.args.t4)) (sym (count s)))
-    (c.before.before.total2.ensures ∙ ap (λ (n : ℕ). sum n (at s.args.imports.now)) (sym (count s)))
-    (c.before.total3.ensures ∙ ap (λ (n : ℕ). sum n (at s.args.injected.now)) (sym (count s)))
+    c.less_wide-target.ensures
+    ∙ target_is (sheet (less_wide_target_to_start c)) (ok (less_wide_target_to_start c)) (lists (less_wide_target_to_start c)) _ _ _ _ c.requires.1.1 _ _ _
+    (c.total-retailers.ensures ∙ ap (λ (n : ℕ). sum n (at c.args.demands)) (sym (count (less_wide_target_to_start c))))
+    (c.total-generators.ensures ∙ ap (λ (n : ℕ). sum n (at c.args.imports.now)) (sym (count (less_wide_target_to_start c))))
+    (c.total-small.ensures ∙ ap (λ (n : ℕ). sum n (at c.args.injected.now)) (sym (count (less_wide_target_to_start c))))
 
 -- point 22, and that it passed
-scheduled : (c : tie.After-judge)
-    → c.judge.result.good ≡ schedule_good (sheet (judge_to_start c)) (lists (judge_to_start c))
+scheduled : (c : tie.After-judge-v)
+    → c.judge-v.result.good ≡ schedule_good (sheet (judge_v_to_start c)) (lists (judge_v_to_start c))
 scheduled c =
-    schedule_are (sheet (judge_to_start c)) (ok (judge_to_start c)) (lists (judge_to_start c)) _ _ _ _
-    (judge_to_start c).requires.1.1 _ _ _ _ (target (judge_to_less_wide c))
-    (filled_count 0 _ _ _ _ _ (sym (count (judge_to_start c))) (judge_to_together c).together.ensures) c.judge.ensures
+    schedule_are (sheet (judge_v_to_start c)) (ok (judge_v_to_start c)) (lists (judge_v_to_start c)) _ _ _ _
+    c.requires.1.1 _ _ _ _ (target (judge_v_to_less_wide_target c))
+    (filled_count 0 _ _ _ _ _ (sym (count (judge_v_to_start c))) c.together.ensures) c.judge-v.ensures
 
-passed_22 : (c : tie.Else1) → schedule_good (sheet (else1_to_start c)) (lists (else1_to_start c)) ≡ true
-passed_22 c = sym (scheduled (else1_to_judge c)) ∙ not-false (else1_to_judge c).judge.result.good c.if1.false
+passed_22 : (c : tie.Else-not-v) → schedule_good (sheet (else_not_v_to_start c)) (lists (else_not_v_to_start c)) ≡ true
+passed_22 c = sym (scheduled (else_not_v_to_judge_v c)) ∙ not-false c.judge-v.result.good c.if-not-v.false
 
-passed_23 : (c : tie.Else2)
-    → price_good (sheet (else2_to_start c)) (else2_to_start c).args.price (lists (else2_to_start c)) ≡ true
+passed_23 : (c : tie.Else-price-v)
+    → price_good (sheet (else_price_v_to_start c)) c.args.price (lists (else_price_v_to_start c)) ≡ true
 passed_23 c =
-    sym (price_are (sheet (else2_to_start c)) (ok (else2_to_start c)) (lists (else2_to_start c)) _ _ _ _
-    (else2_to_start c).requires.1.1 _ _ _ _ (target (else2_to_less_wide c))
-    (filled_count 0 _ _ _ _ _ (sym (count (else2_to_start c))) (else2_to_together c).together.ensures)
-    (else2_to_judge c).judge.ensures _) ∙ eq-eqb _ _ c.if2.false
+    sym (price_are (sheet (else_price_v_to_start c)) (ok (else_price_v_to_start c)) (lists (else_price_v_to_start c)) _ _ _ _
+    c.requires.1.1 _ _ _ _ (target (else_price_v_to_less_wide_target c))
+    (filled_count 0 _ _ _ _ _ (sym (count (else_price_v_to_start c))) c.together.ensures)
+    c.judge-v.ensures _) ∙ eq-eqb _ _ c.if-price-v.false
 
 -- point 24, and that it passed
-agreed : (c : tie.After-judge2)
-    → c.judge2.result ≡ amounts_good (sheet (judge2_to_start c)) (lists (judge2_to_start c))
+agreed : (c : tie.After-judge-follow)
+    → c.judge-follow.result ≡ amounts_good (sheet (judge_follow_to_start c)) (lists (judge_follow_to_start c))
 agreed c =
-    amounts_are (sheet (judge2_to_start c)) (ok (judge2_to_start c)) (lists (judge2_to_start c)) _ _ _ _
-    (judge2_to_start c).requires.1.1 _ _ _ _ (target (judge2_to_less_wide c))
-    (filled_count 0 _ _ _ _ _ (sym (count (judge2_to_start c))) (judge2_to_together c).together.ensures)
-    (judge2_to_judge c).judge.ensures _ _ _ (count (judge2_to_start c)) (judge2_to_start c).requires.1.2
-    c.judge2.ensures
+    amounts_are (sheet (judge_follow_to_start c)) (ok (judge_follow_to_start c)) (lists (judge_follow_to_start c)) _ _ _ _
+    c.requires.1.1 _ _ _ _ (target (judge_follow_to_less_wide_target c))
+    (filled_count 0 _ _ _ _ _ (sym (count (judge_follow_to_start c))) c.together.ensures)
+    c.judge-v.ensures _ _ _ (count (judge_follow_to_start c)) c.requires.1.2
+    c.judge-follow.ensures
 
-passed_24 : (c : tie.Else3) → amounts_good (sheet (else3_to_start c)) (lists (else3_to_start c)) ≡ true
-passed_24 c = sym (agreed c.before.before) ∙ not-false c.before.before.judge2.result c.if3.false
+passed_24 : (c : tie.Else-not-follow) → amounts_good (sheet (else_not_follow_to_start c)) (lists (else_not_follow_to_start c)) ≡ true
+passed_24 c = sym (agreed c.before.before) ∙ c.if-not-follow.false
 
 -- point 25
-lined : (c : tie.After-good2)
-    → c.good2.result ≡ lines_good (sheet (good2_to_start c)) (good2_to_start c).args.price (lists (good2_to_start c))
+lined : (c : tie.After-good)
+    → c.good.result ≡ lines_good (sheet (good_to_start c)) c.args.price (lists (good_to_start c))
 lined c =
-    c.good2.ensures ∙ lines_are (sheet (good2_to_start c)) (ok (good2_to_start c)) (lists (good2_to_start c)) _ _ _ _
-    (good2_to_start c).requires.1.1 _ _ _ _ (target (good2_to_less_wide c))
-    (filled_count 0 _ _ _ _ _ (sym (count (good2_to_start c))) (good2_to_together c).together.ensures)
-    (good2_to_judge c).judge.ensures _ _ _ (count (good2_to_start c)) (good2_to_start c).requires.1.2
-    (good2_to_judge2 c).judge2.ensures (good2_to_start c).args.price
+    c.good.ensures ∙ lines_are (sheet (good_to_start c)) (ok (good_to_start c)) (lists (good_to_start c)) _ _ _ _
+    c.requires.1.1 _ _ _ _ (target (good_to_less_wide_target c))
+    (filled_count 0 _ _ _ _ _ (sym (count (good_to_start c))) c.together.ensures)
+    c.judge-v.ensures _ _ _ (count (good_to_start c)) c.requires.1.2
+    c.judge-follow.ensures c.args.price
 
-total_requires : tie.Need-total-requires
-total_requires c κs = (few (demands_to_start c), retailers (demands_to_start c))
+total_requires : tie.Need-total-retailers-requires
+total_requires c κs = (few (demands_1_to_start c), retailers (demands_1_to_start c))
 
-total_requires_2 : tie.Need-total-requires-2
-total_requires_2 c κs = (few (total_to_start c), generators (total_to_start c))
+total_requires_2 : tie.Need-total-generators-requires
+total_requires_2 c κs = (few (total_retailers_to_start c), generators (total_retailers_to_start c))
 
-total_requires_3 : tie.Need-total-requires-3
-total_requires_3 c κs = (few (total2_to_start c), smalls (total2_to_start c))
+total_requires_3 : tie.Need-total-small-requires
+total_requires_3 c κs = (few (total_generators_to_start c), smalls (total_generators_to_start c))
 
-add_demand : tie.Need-overflow-add-demand
+add_demand : tie.Need-overflow_add-demand
 add_demand c =
     omega (
       arith,
-      c.before.total.ensures,
-      c.total2.ensures,
-      retailers (total2_to_start c),
-      generators (total2_to_start c),
+      c.total-retailers.ensures,
+      c.total-generators.ensures,
+      retailers (total_generators_to_start c),
+      generators (total_generators_to_start c),
     )
 
 together_requires : tie.Need-together-requires
-together_requires c κs = (few (own_to_start c), few (own_to_start c))
+together_requires c κs = (few (own_1_to_start c), few (own_1_to_start c))
 
-judge_requires : tie.Need-judge-requires
+judge_requires : tie.Need-judge-v-requires
 judge_requires c κs = (
-  (own3_to_start c).requires.0,
+  c.requires.0,
   (
     omega (
       arith,
-      plants_long (own3_to_start c).args.bytes.now (own3_to_start c).args.c,
-      (own3_to_start c).requires.1.0.schedule,
+      plants_long c.args.bytes.now c.args.c,
+      c.requires.1.0.schedule,
     ),
-    addable (sheet (own3_to_start c)) (ok (own3_to_start c)) (lists (own3_to_start c)) _ _ _ _
-        (own3_to_start c).requires.1.1 _
-        (filled_count 0 _ _ _ _ _ (sym (count (own3_to_start c))) c.before.before.together.ensures),
+    addable (sheet (own_3_1_to_start c)) (ok (own_3_1_to_start c)) (lists (own_3_1_to_start c)) _ _ _ _
+        c.requires.1.1 _
+        (filled_count 0 _ _ _ _ _ (sym (count (own_3_1_to_start c))) c.together.ensures),
   ),
 )
 
-returns : tie.Need-returns
+returns : tie.Need-returns-then-not-v
 returns c =
     c.refuse.ensures ∙ sym (trades_22 (sheet (refuse_to_start c)) (ok (refuse_to_start c))
-    (lists (refuse_to_start c)) _ _ _ _ (refuse_to_start c).requires.1.1 _
-    (sym (scheduled (refuse_to_judge c)) ∙ not-true (refuse_to_judge c).judge.result.good c.before.if1.true))
+    (lists (refuse_to_start c)) _ _ _ _ c.requires.1.1 _
+    (sym (scheduled (refuse_to_judge_v c)) ∙ not-true c.judge-v.result.good c.if-not-v.true))
 
-returns_2 : tie.Need-returns-2
+returns_2 : tie.Need-returns-then-price-v
 returns_2 c =
-    c.refuse2.ensures ∙ sym (trades_23 (sheet (refuse2_to_start c)) (ok (refuse2_to_start c))
-    (lists (refuse2_to_start c)) _ _ _ _ (refuse2_to_start c).requires.1.1 _ (passed_22 (refuse2_to_else1 c))
-    (sym (price_are (sheet (refuse2_to_start c)) (ok (refuse2_to_start c)) (lists (refuse2_to_start c)) _ _ _ _
-    (refuse2_to_start c).requires.1.1 _ _ _ _ (target (refuse2_to_less_wide c))
-    (filled_count 0 _ _ _ _ _ (sym (count (refuse2_to_start c))) (refuse2_to_together c).together.ensures)
-    (refuse2_to_judge c).judge.ensures _) ∙ ne_eqb _ _ c.before.if2.true))
+    c.refuse-then-price-v.ensures ∙ sym (trades_23 (sheet (refuse_then_price_v_to_start c)) (ok (refuse_then_price_v_to_start c))
+    (lists (refuse_then_price_v_to_start c)) _ _ _ _ c.requires.1.1 _ (passed_22 (refuse_then_price_v_to_else_not_v c))
+    (sym (price_are (sheet (refuse_then_price_v_to_start c)) (ok (refuse_then_price_v_to_start c)) (lists (refuse_then_price_v_to_start c)) _ _ _ _
+    c.requires.1.1 _ _ _ _ (target (refuse_then_price_v_to_less_wide_target c))
+    (filled_count 0 _ _ _ _ _ (sym (count (refuse_then_price_v_to_start c))) c.together.ensures)
+    c.judge-v.ensures _) ∙ ne_eqb _ _ c.if-price-v.true))
 
-array_share_prefix_demands : tie.Need-array-share-prefix-demands
-array_share_prefix_demands c = long (else2_to_start c)
+array_share_prefix_demands : tie.Need-slice_bounds-demands-end
+array_share_prefix_demands c = long (else_price_v_to_start c)
 
-slice_aggregate_judge_2 : tie.Need-slice-aggregate-judge-2
+slice_aggregate_judge_2 : tie.Need-slice_bounds-judge-end-2
 slice_aggregate_judge_2 c =
-    sym (length-take-le _ (demands3_to_start c).args.t4 (long (demands3_to_start c)))
+    sym (length-take-le _ c.args.demands (long (demands_3_1_to_start c)))
 
-judge_requires_2 : tie.Need-judge-requires-2
-judge_requires_2 c κs =
-    let s = held_to_start c in (
-      s.pre.0,
-      (
-        omega (arith, contracts_long s.args.bytes.now s.args.c, s.pre.1.0.amounts),
-        length-take-le _ s.args.t4 (long s),
-        none_added (sheet s) (ok s) (lists s) _ _ _ _ s.pre.1.1,
-      ),
-    )
+judge_requires_2 : tie.Need-judge-follow-requires
+judge_requires_2 c κs = (
+  c.requires.0,
+  (
+    omega (arith, contracts_long c.args.bytes.now c.args.c, c.requires.1.0.amounts),
+    length-take-le _ c.args.demands (long (held_1_to_start c)),
+    none_added (sheet (held_1_to_start c)) (ok (held_1_to_start c)) (lists (held_1_to_start c)) _ _ _ _ c.requires.1.1,
+  ),
+)
 
-returns_3 : tie.Need-returns-3
+returns_3 : tie.Need-returns-then-not-follow
 returns_3 c =
-    c.refuse3.ensures ∙ sym (trades_24 (sheet (refuse3_to_start c)) (ok (refuse3_to_start c))
-    (lists (refuse3_to_start c)) _ _ _ _ (refuse3_to_start c).requires.1.1 _ (passed_22 (refuse3_to_else1 c))
-    (passed_23 (refuse3_to_else2 c))
-    (sym (agreed (refuse3_to_judge2 c)) ∙ not-true (refuse3_to_judge2 c).judge2.result c.before.if3.true))
+    c.refuse-then-not-follow.ensures ∙ sym (trades_24 (sheet (refuse_then_not_follow_to_start c)) (ok (refuse_then_not_follow_to_start c))
+    (lists (refuse_then_not_follow_to_start c)) _ _ _ _ c.requires.1.1 _ (passed_22 (refuse_then_not_follow_to_else_not_v c))
+    (passed_23 (refuse_then_not_follow_to_else_price_v c))
+    (sym (agreed (refuse_then_not_follow_to_judge_follow c)) ∙ c.if-not-follow.true))
 
 good_requires : tie.Need-good-requires
 good_requires c κs = (
-  few (held3_to_start c),
+  few (held_3_1_to_start c),
   omega (
     arith,
-    (held3_to_else2 c).if2.false,
-    price_fits (sheet (held3_to_start c)) (ok (held3_to_start c)) (lists (held3_to_start c)) _ _ _ _
-        (held3_to_start c).requires.1.1 _ _ _ _ (target (held3_to_less_wide c))
-        (filled_count 0 _ _ _ _ _ (sym (count (held3_to_start c))) (held3_to_together c).together.ensures)
-        (held3_to_judge c).judge.ensures,
+    c.if-price-v.false,
+    price_fits (sheet (held_3_1_to_start c)) (ok (held_3_1_to_start c)) (lists (held_3_1_to_start c)) _ _ _ _
+        c.requires.1.1 _ _ _ _ (target (held_3_1_to_less_wide_target c))
+        (filled_count 0 _ _ _ _ _ (sym (count (held_3_1_to_start c))) c.together.ensures)
+        c.judge-v.ensures,
   ),
-  omega (arith, count (held3_to_start c), (held3_to_start c).requires.1.0.figures),
-  omega (arith, count (held3_to_start c), (held3_to_start c).requires.1.0.money),
+  omega (arith, count (held_3_1_to_start c), c.requires.1.0.figures),
+  omega (arith, count (held_3_1_to_start c), c.requires.1.0.money),
 )
 
-returns_4 : tie.Need-returns-4
+returns_4 : tie.Need-returns-then-good
 returns_4 c =
-    sym (trades_fine (sheet (then4_to_start c)) (ok (then4_to_start c)) (lists (then4_to_start c)) _ _ _ _
-    (then4_to_start c).requires.1.1 _ (passed_22 (then4_to_else1 c)) (passed_23 (then4_to_else2 c))
-    (passed_24 (then4_to_else3 c)) (sym (lined c.before) ∙ c.if4.true))
+    sym (trades_fine (sheet (then_good_to_start c)) (ok (then_good_to_start c)) (lists (then_good_to_start c)) _ _ _ _
+    c.requires.1.1 _ (passed_22 (then_good_to_else_not_v c)) (passed_23 (then_good_to_else_price_v c))
+    (passed_24 (then_good_to_else_not_follow c)) (sym (lined c.before) ∙ c.if-good.true))
 
-returns_5 : tie.Need-returns-5
+returns_5 : tie.Need-returns
 returns_5 c =
-    c.refuse4.ensures ∙ sym (trades_25 (sheet (refuse4_to_start c)) (ok (refuse4_to_start c))
-    (lists (refuse4_to_start c)) _ _ _ _ (refuse4_to_start c).requires.1.1 _ (passed_22 (refuse4_to_else1 c))
-    (passed_23 (refuse4_to_else2 c)) (passed_24 (refuse4_to_else3 c))
-    (sym (lined c.before.before) ∙ c.before.if4.false))
+    c.refuse-2.ensures ∙ sym (trades_25 (sheet (refuse_2_to_start c)) (ok (refuse_2_to_start c))
+    (lists (refuse_2_to_start c)) _ _ _ _ c.requires.1.1 _ (passed_22 (refuse_2_to_else_not_v c))
+    (passed_23 (refuse_2_to_else_price_v c)) (passed_24 (refuse_2_to_else_not_follow c))
+    (sym (lined c.before.before) ∙ c.if-good.false))
 
 pub trades_spec : {M : Type 1} → statement M
 trades_spec =
     tie.close
     (tie.spec total_requires total_requires_2 add_demand total_requires_3 (λ c κs. search rules) (λ c. search rules)
-    together_requires (λ c. search rules)
-    judge_requires (λ c κs. search rules) returns (λ c κs. search rules) returns_2
-    array_share_prefix_demands slice_aggregate_judge_2 (λ c. search rules) judge_requires_2
-    (λ c κs. search rules) returns_3 good_requires returns_4 (λ c κs. search rules) returns_5)
+    together_requires (λ c. search rules) judge_requires (λ c κs. search rules) returns (λ c κs. search rules) returns_2
+    array_share_prefix_demands slice_aggregate_judge_2 (λ c. search rules) judge_requires_2 (λ c κs. search rules) returns_3
+    good_requires returns_4 (λ c κs. search rules) returns_5)

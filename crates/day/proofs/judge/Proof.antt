@@ -5,7 +5,7 @@ use Rattle.day.proofs.judge.Tie as tie
 
 returns : tie.Need-returns
 unfolding whole_verdict
-returns c = rw (← c.before.before.total.ensures, ← c.before.has_room.ensures) c.first-refusal.ensures
+returns c = rw (← c.total.ensures, ← c.has_room-room.ensures) c.first_refusal.ensures
 
 pub judge_spec : {M : Type 1} → statement M
 judge_spec = tie.close (tie.spec (λ c κs. search rules) (λ c κs. search rules) (λ c κs. search rules) returns)

@@ -9,12 +9,18 @@ use Rattle.day.proofs.Hours.{fits_of, day_done, day_refused}
 use Rattle.day.proofs.settle_day.Statement.{statement}
 use Rattle.day.proofs.settle_day.Tie as tie
 
--- ways back: X-to-Y leads from the place X of the code to the earlier place Y
-abbrev judge_to_start : tie.After-judge → tie.Start
-judge_to_start c = c.before.before.before.before.before
+-- ways back: X_to_Y leads from the place X of the code to the earlier place Y
+abbrev settle_hours_arg_4_1_to_in_default : tie.After-settle_hours-arg-4-1 → tie.In_default
+settle_hours_arg_4_1_to_in_default c = c.before.before.before.before
 
-abbrev enum_told_to_start : tie.After-enum-told → tie.Start
-enum_told_to_start c = judge_to_start c.before.before
+abbrev in_default_to_start : tie.In_default → tie.Start
+in_default_to_start c = c.before.before.before.before.before.before
+
+abbrev alike_to_start : tie.After-alike → tie.Start
+alike_to_start c = c.before.before.before.before.before.before.before
+
+abbrev slice_known_6_1_to_in_default : tie.After-slice_known-6-1 → tie.In_default
+slice_known_6_1_to_in_default c = c.before.before.before.before.before.before.before.before.before.before.before.before
 
 abbrev whole : tie.Start → Verdict
 whole c =
@@ -22,27 +28,24 @@ whole c =
     day_verdict a.sheets.now a.lengths.now
     (lent a.figures.now a.money.now a.schedule.now a.amounts.now)
 
-returns : tie.Need-returns
+returns : tie.Need-returns-in-Refused
 returns c =
-    let at_judge = c.before.before.before.before in
     rw c.alike.ensures
-    (day_refused _ _ _ (whole (judge_to_start at_judge)) _
-    (sym at_judge.judge.ensures ∙ c.before.before.verdict.given.1))
+    (day_refused _ _ _ (whole (alike_to_start c)) _
+    (sym c.judge-verdict.ensures ∙ c.in-Refused.is))
 
-fine : (c : tie.After-enum-told) → whole (enum_told_to_start c) ≡ Verdict.Fine
-fine c = sym c.before.before.judge.ensures ∙ c.enum_told.given.1
+fine : (c : tie.In_default) → whole (in_default_to_start c) ≡ Verdict.Fine
+fine c = sym c.judge-verdict.ensures ∙ c.in_default.is
 
-settle_hours_requires : tie.Need-settle-hours-requires
-settle_hours_requires c κs = fits_of _ _ _ (fine c.before.before.before.before)
+settle_hours_requires : tie.Need-settle_hours-requires
+settle_hours_requires c κs = fits_of _ _ _ (fine (settle_hours_arg_4_1_to_in_default c))
 
-returns_2 : tie.Need-returns-2
+returns_2 : tie.Need-returns
 returns_2 c =
-    let at_hours = c.before.before.before.before.before.before.before in
-    let at_told = at_hours.before.before.before.before.before in
-    day_done _ _ _ _ _ _ (fine at_told) at_hours.settle-hours.ensures
+    day_done _ _ _ _ _ _ (fine (slice_known_6_1_to_in_default c)) c.settle_hours.ensures
 
 pub settle_day_spec : {M : Type 1} → statement M
 settle_day_spec =
     tie.close
-    (tie.spec (λ c κs. search rules) (λ c. search rules) (λ c κs. search rules) returns (λ c. search rules)
-    settle_hours_requires (λ c. search rules) (λ c. search rules) (λ c. search rules) (λ c. search rules) returns_2)
+    (tie.spec (λ c κs. search rules) (λ c. search rules) (λ c κs. search rules) returns (λ c. search rules) settle_hours_requires
+    (λ c. search rules) (λ c. search rules) (λ c. search rules) (λ c. search rules) returns_2)

@@ -17,20 +17,17 @@ all_cells_lem w h = omega arith
 
 returns : tie.Need-returns
 returns c =
-    let at_settle = c.before.before.before.before.before.before.before in
-    let at_settle_arg = at_settle.before.before.before.before in
-    let start = at_settle_arg.before.before.before.before.before in
-    let h = start.args.h in
-    one_hour h _ _ _ _ start.requires (lent_cells figures_part h) (lent_cells money_part h) (lent_cells schedule_part h)
+    let h = c.args.h in
+    one_hour h _ _ _ _ c.requires (lent_cells figures_part h) (lent_cells money_part h) (lent_cells schedule_part h)
     (lent_cells amounts_part h) (all_cells_lem figures_part h) (all_cells_lem money_part h) (all_cells_lem schedule_part h)
-    (all_cells_lem amounts_part h) at_settle.settle.ensures
+    (all_cells_lem amounts_part h) c.settle.ensures
 
 pub settle_hour_spec : {M : Type 1} → statement M
 settle_hour_spec =
     tie.close
     (tie.spec (λ c. search rules) (λ c. search rules) (λ c. search rules) (λ c. search rules) (λ c. search rules)
-    (λ c. search rules) (λ c. search rules) (λ c. search rules) (λ c. search rules) (λ c. search rules)
-    (λ c. search rules) (λ c. search rules) (λ c. search rules) (λ c. search rules) (λ c. search rules)
-    (λ c. search rules) (λ c. search rules) (λ c. search rules) (λ c. search rules) (λ c. search rules)
-    (λ c. search rules) (λ c. search rules) (λ c. search rules) (λ c. search rules) (λ c κs. search rules)
-    (λ c. search rules) (λ c. search rules) (λ c. search rules) (λ c. search rules) returns)
+    (λ c. search rules) (λ c. search rules) (λ c. search rules) (λ c. search rules) (λ c. search rules) (λ c. search rules)
+    (λ c. search rules) (λ c. search rules) (λ c. search rules) (λ c. search rules) (λ c. search rules) (λ c. search rules)
+    (λ c. search rules) (λ c. search rules) (λ c. search rules) (λ c. search rules) (λ c. search rules) (λ c. search rules)
+    (λ c. search rules) (λ c κs. search rules) (λ c. search rules) (λ c. search rules) (λ c. search rules) (λ c. search rules)
+    returns)

@@ -13,69 +13,56 @@ use Rattle.day.proofs.Hours.{hours_none, has_part, hours_next}
 use Rattle.day.proofs.settle_hours.Statement.{statement}
 use Rattle.day.proofs.settle_hours.Tie as tie
 
-abbrev invariant_loop : tie.invariant-loop
+abbrev invariant_loop : tie.invariant-loop-h
 invariant_loop sheets lengths figures₀ money₀ schedule₀ amounts₀ all₀ start₀ h₀ figures money schedule amounts all start h =
     (h ≤ hours) × (start ≡ start_of lengths h)
     × HoursDone h sheets lengths (lent figures₀ money₀ schedule₀ amounts₀) (lent figures money schedule amounts) all
 
-abbrev decreases_loop : tie.decreases-loop
+abbrev decreases_loop : tie.decreases-loop-h
 decreases_loop sheets lengths figures₀ money₀ schedule₀ amounts₀ all₀ start₀ h₀ figures money schedule amounts all start h =
     hours - h
 
--- ways back: X-to-Y leads from the place X of the code to the earlier place Y
-abbrev size_to_loop : tie.After-size invariant_loop decreases_loop → tie.At-loop invariant_loop decreases_loop
-size_to_loop c = c.before.before.before
-
-abbrev size_to_start : tie.After-size invariant_loop decreases_loop → tie.Start invariant_loop decreases_loop
-size_to_start c = (size_to_loop c).before.before.before.before.before.before
-
 -- this hour's sheet lies within the bytes
 inside : (c : tie.After-size invariant_loop decreases_loop)
-    → (size_to_loop c).loop.start + c.size.result ≤ length (size_to_start c).args.sheets.now
+    → c.loop-h.start + c.size.result ≤ length c.args.sheets.now
 inside c =
-    let l = (size_to_loop c).loop in
     omega (
       arith,
       c.size.ensures.0,
-      l.inv.1,
-      sum_front hours l.h (at (size_to_start c).args.lengths.now) (omega arith),
-      (size_to_start c).requires.sheets,
+      c.loop-h.invariant.1,
+      sum_front hours c.loop-h.h (at c.args.lengths.now) (omega arith),
+      c.requires.sheets,
     )
 
-loop_holds : tie.Need-loop-init invariant_loop decreases_loop
+loop_holds : tie.Need-loop-h-init invariant_loop decreases_loop
 loop_holds c =
-    (omega arith, sym (sum_none _), hours_none _ _ _ _ (ap length c.alike.ensures ∙ length-replicate hours no_summary))
+    (omega arith, sym (sum_none _), hours_none _ _ _ _ (ap length c.alike-all.ensures ∙ length-replicate hours no_summary))
 
-add_end : tie.Need-overflow-add-end invariant_loop decreases_loop
+add_end : tie.Need-overflow_add-end invariant_loop decreases_loop
 add_end c = omega (arith, inside c)
 
-part_settle_hour_end : tie.Need-slice-bounds-settle-hour-end invariant_loop decreases_loop
+part_settle_hour_end : tie.Need-slice_bounds-settle_hour-end invariant_loop decreases_loop
 part_settle_hour_end c = inside c
 
-settle_hour_requires : tie.Need-settle-hour-requires invariant_loop decreases_loop
+settle_hour_requires : tie.Need-settle_hour-s-requires invariant_loop decreases_loop
 settle_hour_requires c κs =
-    let at_size = c.before.before.before.before.before in
-    let l = (size_to_loop at_size).loop in
-    has_part _ _ _ l.h _ _ (omega arith) (size_to_start at_size).requires l.inv.2
+    has_part _ _ _ c.loop-h.h _ _ (omega arith) c.requires c.loop-h.invariant.2
 
-loop_again : tie.Need-loop-preserved invariant_loop decreases_loop
+loop_again : tie.Need-loop-h-preserved invariant_loop decreases_loop
 loop_again c =
-    let at_hour = c.before.before.before.before.before.before.before in
-    let at_size = at_hour.before.before.before.before.before.before in
-    let l = (size_to_loop at_size).loop in
-    let a = (size_to_start at_size).args in
-    let n : l.start + at_size.size.result - l.start ≡ at a.lengths.now l.h = omega (
+    let a = c.args in
+    let n : c.loop-h.start + c.size.result - c.loop-h.start ≡ at a.lengths.now c.loop-h.h = omega (
       arith,
-      at_size.size.ensures.0,
+      c.size.ensures.0,
     ) in (
       omega arith,
-      rw sum_step (omega (arith, at_size.size.ensures.0, l.inv.1)),
-      hours_next a.sheets.now a.lengths.now _ l.h _ _ l.all _ (omega arith) l.inv.2 _
-          (ap₂ (λ (k m : ℕ). take k (drop m a.sheets.now)) n l.inv.1) at_hour.settle-hour.ensures,
+      rw sum_step (omega (arith, c.size.ensures.0, c.loop-h.invariant.1)),
+      hours_next a.sheets.now a.lengths.now _ c.loop-h.h _ _ c.loop-h.all _ (omega arith) c.loop-h.invariant.2 _
+          (ap₂ (λ (k m : ℕ). take k (drop m a.sheets.now)) n c.loop-h.invariant.1) c.settle_hour-s.ensures,
     )
 
 returns : tie.Need-returns invariant_loop decreases_loop
-returns c = let e : c.before.loop.h ≡ hours = omega arith in rw e at c.before.loop.invariant.2
+returns c = let e : c.loop-h.h ≡ hours = omega arith in rw e at c.loop-h.invariant.2
 
 pub settle_hours_spec : {M : Type 1} → statement M
 settle_hours_spec =
@@ -83,5 +70,5 @@ settle_hours_spec =
     (tie.spec invariant_loop decreases_loop (λ c κs. search rules) loop_holds (λ c. omega arith) (λ c. omega arith)
     (λ c κs. search rules) add_end (λ c. omega arith) (λ c. omega arith) part_settle_hour_end settle_hour_requires
     (λ c. omega arith) (λ c. omega arith) (λ c. omega arith) (λ c. omega arith) loop_again
-    (λ c. c.before.loop.invariant.2.figures.long) (λ c. c.before.loop.invariant.2.money.long)
-    (λ c. c.before.loop.invariant.2.schedule.long) (λ c. c.before.loop.invariant.2.amounts.long) returns)
+    (λ c. c.loop-h.invariant.2.figures.long) (λ c. c.loop-h.invariant.2.money.long) (λ c. c.loop-h.invariant.2.schedule.long)
+    (λ c. c.loop-h.invariant.2.amounts.long) returns)

@@ -9,20 +9,20 @@ use Rattle.day.proofs.total.Statement.{statement}
 use Rattle.day.proofs.total.Tie as tie
 
 -- the sum so far is no more than 32 bits an hour
-abbrev invariant_loop : tie.invariant-loop
+abbrev invariant_loop : tie.invariant-loop-h
 invariant_loop lengths sum₀ h₀ sum h = (h ≤ hours) × (sum ≡ start_of lengths h) × (sum ≤ 4294967295 * h)
 
-abbrev decreases_loop : tie.decreases-loop
+abbrev decreases_loop : tie.decreases-loop-h
 decreases_loop lengths sum₀ h₀ sum h = hours - h
 
-loop_holds : tie.Need-loop-init invariant_loop decreases_loop
+loop_holds : tie.Need-loop-h-init invariant_loop decreases_loop
 loop_holds c = (omega arith, sym (sum_none _), omega arith)
 
-loop_again : tie.Need-loop-preserved invariant_loop decreases_loop
+loop_again : tie.Need-loop-h-preserved invariant_loop decreases_loop
 loop_again c = (omega arith, (rw sum_step (omega arith)), omega arith)
 
 returns : tie.Need-returns invariant_loop decreases_loop
-returns c = let e : c.before.loop.h ≡ hours = omega arith in rw e at c.before.loop.invariant.1
+returns c = let e : c.loop-h.h ≡ hours = omega arith in rw e at c.loop-h.invariant.1
 
 pub total_spec : {M : Type 1} → statement M
 total_spec =

@@ -6,14 +6,14 @@ use Rattle.entry.specs.Entry.{agents_counted}
 use Rattle.entry.proofs.agents_in.Statement.{statement}
 use Rattle.entry.proofs.agents_in.Tie as tie
 
-returns : tie.Need-returns
+returns : tie.Need-returns-in-Rows
 returns c =
-    let told = sym c.before.before.before.count-rows.ensures ∙ c.before.rows.given.1 in
+    let told = sym c.count_rows-rows.ensures ∙ c.in-Rows.is in
     (sym (ap agents_counted told), (rows_counted _ _ told).1.few.agents)
 
-returns_2 : tie.Need-returns-2
+returns_2 : tie.Need-returns-in-Refused
 returns_2 c =
-    let told = sym c.before.before.count-rows.ensures ∙ c.enum_told.given.1 in
+    let told = sym c.count_rows-rows.ensures ∙ c.in-Refused.is in
     (sym (ap agents_counted told), zero-le)
 
 pub agents_in_spec : {M : Type 1} → statement M

@@ -6,16 +6,15 @@ use Rattle.entry.proofs.Steps.{hour_entered, none_entered}
 use Rattle.entry.proofs.entry_of.Statement.{statement}
 use Rattle.entry.proofs.entry_of.Tie as tie
 
-returns : tie.Need-returns
+returns : tie.Need-returns-then-summary-eq0
 returns c =
-    let at_agents = c.before.before in
-    let figures = at_agents.before.before.before.before.before.args.figures.now in
-    hour_entered _ _ _ _ at_agents.before.if1.true
-    (c.narrow.ensures ∙ ap (λ (x : ℕ). min x most_word)
-    (c.before.all_bought.ensures ∙ ap (bought_in_all figures) at_agents.agents-in.ensures.0))
+    let figures = c.args.figures.now in
+    hour_entered _ _ _ _ c.if-summary-eq0.true
+    (c.narrow-bought.ensures ∙ ap (λ (x : ℕ). min x most_word)
+    (c.all_bought.ensures ∙ ap (bought_in_all figures) c.agents_in.ensures.0))
 
-returns_2 : tie.Need-returns-2
-returns_2 c = none_entered _ _ _ c.if1.false
+returns_2 : tie.Need-returns-else-summary-eq0
+returns_2 c = none_entered _ _ _ c.if-summary-eq0.false
 
 pub entry_of_spec : {M : Type 1} → statement M
 entry_of_spec =

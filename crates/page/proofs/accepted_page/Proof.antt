@@ -13,18 +13,21 @@ use Rattle.page.proofs.Paged.{refused_sheet, lined_sheet, price_small, lines_sma
 use Rattle.page.proofs.accepted_page.Statement.{statement}
 use Rattle.page.proofs.accepted_page.Tie as tie
 
--- ways back: X-to-Y leads from the place X of the code to the earlier place Y
-abbrev kinds_to_start : tie.After-kinds → tie.Start
-kinds_to_start c = c.before.before.before
+-- ways back: X_to_Y leads from the place X of the code to the earlier place Y
+abbrev print_lines_arg_1_to_else_s_ne0 : tie.After-print_lines-arg-1 → tie.Else-s-ne0
+print_lines_arg_1_to_else_s_ne0 c = c.before.before.before.before.before.before
 
-abbrev settle_to_start : tie.After-settle-lists → tie.Start
-settle_to_start c = kinds_to_start c.before.before.before.before.before
+abbrev slice_known_2_1_to_else_s_ne0 : tie.After-slice_known-2-1 → tie.Else-s-ne0
+slice_known_2_1_to_else_s_ne0 c = print_lines_arg_1_to_else_s_ne0 c.before.before.before
 
-abbrev else_to_settle : tie.Else1 → tie.After-settle-lists
-else_to_settle c = c.before.before
+abbrev else_s_ne0_to_start : tie.Else-s-ne0 → tie.Start
+else_s_ne0_to_start c = c.before.before.before.before.before.before.before.before.before.before
 
-abbrev arg_to_else : tie.After-print-lines-arg → tie.Else1
-arg_to_else c = c.before.before.before.before.before.before
+abbrev slice_known_then_s_ne0_1_to_start : tie.After-slice_known-then-s-ne0-1 → tie.Start
+slice_known_then_s_ne0_1_to_start c = c.before.before.before.before.before.before.before.before.before.before.before.before.before.before
+
+abbrev print_lines_arg_1_to_start : tie.After-print_lines-arg-1 → tie.Start
+print_lines_arg_1_to_start c = else_s_ne0_to_start c.before.before.before.before.before.before
 
 abbrev bytes : tie.Start → List ℕ
 bytes c = c.args.sheet.now
@@ -33,41 +36,29 @@ few : (c : tie.Start) → c.args.c.agents ≤ most_agents
 few c = (accepted_few _ _ c.requires).agents
 
 -- ---- a refusal
-returns : tie.Need-returns
+returns : tie.Need-returns-then-s-ne0
 returns c =
-    let at_page = c.before.before in
-    let at_then = at_page.before.before in
-    let at_settle = at_then.before.before in
-    let at_start = settle_to_start at_settle in
     let v =
-    summary_refused (sheet_verdict (bytes at_start)) (hour_of (bytes at_start)) _ at_settle.settle-lists.ensures.answered
-    at_then.if1.true in
-    rw (refused_sheet (bytes at_start) _ v) at_page.refused_page.ensures
+    summary_refused (sheet_verdict (bytes (slice_known_then_s_ne0_1_to_start c))) (hour_of (bytes (slice_known_then_s_ne0_1_to_start c))) _ c.settle_lists-s.ensures.answered
+    c.if-s-ne0.true in
+    rw (refused_sheet (bytes (slice_known_then_s_ne0_1_to_start c)) _ v) c.refused_page.ensures
 
 -- ---- an hour that nothing turns away
-fine : (c : tie.Else1) → sheet_verdict (bytes (settle_to_start (else_to_settle c))) ≡ Verdict.Fine
+fine : (c : tie.Else-s-ne0) → sheet_verdict (bytes (else_s_ne0_to_start c)) ≡ Verdict.Fine
 fine c =
-    let at_settle = else_to_settle c in
-    let s = bytes (settle_to_start at_settle) in
-    summary_fine (sheet_verdict s) (hour_of s) _ at_settle.settle-lists.ensures.answered (none_fine s) c.if1.false
+    let s = bytes (else_s_ne0_to_start c) in
+    summary_fine (sheet_verdict s) (hour_of s) _ c.settle_lists-s.ensures.answered (none_fine s) c.if-s-ne0.false
 
-print_lines_requires : tie.Need-print-lines-requires
+print_lines_requires : tie.Need-print_lines-requires
 print_lines_requires c κs =
-    let e = arg_to_else c in
-    let at_settle = else_to_settle e in
-    let s = settle_to_start at_settle in
-    let d = at_settle.settle-lists.ensures in (
-      (few s, price_small _ _ s.pre (fine e) _ _ _ _ _ _ d),
-      lines_small _ _ s.pre (fine e) _ _ _ _ _ _ d,
+    let d = c.settle_lists-s.ensures in (
+      (few (print_lines_arg_1_to_start c), price_small _ _ c.requires (fine (print_lines_arg_1_to_else_s_ne0 c)) _ _ _ _ _ _ d),
+      lines_small _ _ c.requires (fine (print_lines_arg_1_to_else_s_ne0 c)) _ _ _ _ _ _ d,
     )
 
-returns_2 : tie.Need-returns-2
+returns_2 : tie.Need-returns
 returns_2 c =
-    let at_print = c.before.before in
-    let e = arg_to_else at_print.before in
-    let at_settle = else_to_settle e in
-    let s = settle_to_start at_settle in
-    rw (lined_sheet _ _ s.pre (fine e) _ _ _ _ _ _ at_settle.settle-lists.ensures) at_print.print-lines.ensures
+    rw (lined_sheet _ _ c.requires (fine (slice_known_2_1_to_else_s_ne0 c)) _ _ _ _ _ _ c.settle_lists-s.ensures) c.print_lines.ensures
 
 pub accepted_page_spec : {M : Type 1} → statement M
 accepted_page_spec =

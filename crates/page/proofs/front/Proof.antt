@@ -5,4 +5,4 @@ use Rattle.page.proofs.front.Statement.{statement}
 use Rattle.page.proofs.front.Tie as tie
 
 pub front_spec : {M : Type 1} → statement M
-front_spec = tie.close (tie.spec (λ c. sym (length-take-le _ _ c.before.requires)) (λ c. search rules))
+front_spec = tie.close (tie.spec (λ c. sym (length-take-le _ _ c.requires)) (λ c. search rules))

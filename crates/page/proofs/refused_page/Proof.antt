@@ -7,7 +7,7 @@ use Rattle.page.proofs.refused_page.Tie as tie
 
 returns : tie.Need-returns
 returns c =
-    rw (print_fine [] [] [] _ _ (omega arith) (omega arith) (omega arith)) at c.before.before.print.ensures
+    rw (print_fine [] [] [] _ _ (omega arith) (omega arith) (omega arith)) at c.print.ensures
 
 pub refused_page_spec : {M : Type 1} → statement M
 refused_page_spec =

@@ -12,15 +12,9 @@ use Rattle.reasons.proofs.Asked.{hour_settled}
 use Rattle.reasons.proofs.settle_hour.Statement.{statement}
 use Rattle.reasons.proofs.settle_hour.Tie as tie
 
--- ways back: X-to-Y leads from the place X of the code to the earlier place Y
-abbrev kinds_to_start : tie.After-kinds → tie.Start
-kinds_to_start c = c.before.before.before.before
-
-abbrev admit_to_start : tie.After-admit-with → tie.Start
-admit_to_start c = kinds_to_start c.before.before.before.before.before
-
-abbrev arg3_to_admit : tie.After-trade-arg3 → tie.After-admit-with
-arg3_to_admit c = c.before.before.before.before
+-- ways back: X_to_Y leads from the place X of the code to the earlier place Y
+abbrev trade_arg_3_1_to_start : tie.After-trade-arg-3-1 → tie.Start
+trade_arg_3_1_to_start c = c.before.before.before.before.before.before.before.before.before.before.before.before.before
 
 abbrev sheet : tie.Start → Sheet
 sheet c = columns_of c.args.bytes.now c.args.c
@@ -36,16 +30,12 @@ fits c =
 
 trade_requires : tie.Need-trade-requires
 trade_requires c κs =
-    let at_admit = arg3_to_admit c in
-    let s = admit_to_start at_admit in
-    (s.pre.0, tradable _ _ _ _ _ at_admit.admit-with.ensures s.pre.1.0 _ _ (λ _. fits s))
+    (c.requires.0, tradable _ _ _ _ _ c.admit_with-w.ensures c.requires.1.0 _ _ (λ _. fits (trade_arg_3_1_to_start c)))
 
 returns : tie.Need-returns
 returns c =
-    let at_trade = c.before.before.before.before in
-    let at_admit = arg3_to_admit at_trade.before in
-    hour_settled _ _ (admit_to_start at_admit).pre.0 _ _ _ _ _ _ _ _ _ _
-    (columns_traded _ _ _ _ _ at_admit.admit-with.ensures _ (agents_long _ _) _ _ _ _ _ _ _ at_trade.trade.ensures)
+    hour_settled _ _ c.requires.0 _ _ _ _ _ _ _ _ _ _
+    (columns_traded _ _ _ _ _ c.admit_with-w.ensures _ (agents_long _ _) _ _ _ _ _ _ _ c.trade.ensures)
 
 pub settle_hour_spec : {M : Type 1} → statement M
 settle_hour_spec =

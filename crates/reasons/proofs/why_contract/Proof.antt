@@ -4,19 +4,16 @@ use Rattle.reasons.proofs.Told.{contract_unread}
 use Rattle.reasons.proofs.why_contract.Statement.{statement}
 use Rattle.reasons.proofs.why_contract.Tie as tie
 
-why_contract_read_requires : tie.Need-why-contract-read-requires
-why_contract_read_requires c κs = sym c.before.before.before.read.ensures ∙ c.before.c.given.1
+why_contract_read_requires : tie.Need-why_contract_read-requires
+why_contract_read_requires c κs = sym c.read.ensures ∙ c.in-Accepted.is
 
-returns_2 : tie.Need-returns-2
+returns_2 : tie.Need-returns-in-Refused
 returns_2 c =
-    let at_why = c.before in
-    let at_read = at_why.before.before in
-    let at_start = at_read.before.before in
-    contract_unread at_start.args.bytes.now at_start.args.contract _
-    (sym at_read.read.ensures ∙ at_why.why.given.1)
+    contract_unread c.args.bytes.now c.args.contract _
+    (sym c.read.ensures ∙ c.in-Refused.is)
 
 pub why_contract_spec : {M : Type 1} → statement M
 why_contract_spec =
     tie.close
-    (tie.spec (λ c κs. search rules) (λ c. search rules) why_contract_read_requires (λ c. search rules)
-    (λ c. search rules) returns_2)
+    (tie.spec (λ c κs. search rules) (λ c. search rules) why_contract_read_requires (λ c. search rules) (λ c. search rules)
+    returns_2)

@@ -13,87 +13,71 @@ use Rattle.reasons.proofs.Told.{plant_refused, plant_absent, plant_told_lem, sch
 use Rattle.reasons.proofs.why_plant_read.Statement.{statement}
 use Rattle.reasons.proofs.why_plant_read.Tie as tie
 
--- ways back: X-to-Y leads from the place X of the code to the earlier place Y
-abbrev settle_hour_to_start : tie.After-settle-hour → tie.Start
-settle_hour_to_start c = c.before.before.before.before.before
+-- ways back: X_to_Y leads from the place X of the code to the earlier place Y
+abbrev plant_of_p_to_else_c_i : tie.After-plant_of-p → tie.Else-c-i
+plant_of_p_to_else_c_i c = c.before.before.before
 
-abbrev else1_to_settle_hour : tie.Else1 → tie.After-settle-hour
-else1_to_settle_hour c = c.before.before.before.before
+abbrev judge_plant_to_else_c_i : tie.After-judge_plant → tie.Else-c-i
+judge_plant_to_else_c_i c = c.before.before.before.before
 
-abbrev else2_to_else1 : tie.Else2 → tie.Else1
-else2_to_else1 c = c.before.before
-
-abbrev else2_to_start : tie.Else2 → tie.Start
-else2_to_start c = settle_hour_to_start (else1_to_settle_hour (else2_to_else1 c))
-
-abbrev judge_plant_to_else2 : tie.After-judge-plant → tie.Else2
-judge_plant_to_else2 c = c.before.before.before.before
+abbrev judge_plant_to_else_hour_ne0 : tie.After-judge_plant → tie.Else-hour-ne0
+judge_plant_to_else_hour_ne0 c = c.before.before.before.before.before.before
 
 -- behind the first test nothing turns the sheet away
-fine : (c : tie.Else1) → sheet_verdict (settle_hour_to_start (else1_to_settle_hour c)).args.bytes.now ≡ Verdict.Fine
+fine : (c : tie.Else-hour-ne0) → sheet_verdict c.args.bytes.now ≡ Verdict.Fine
 fine c =
-    let w = (else1_to_settle_hour c).settle-hour in
-    let bytes = (settle_hour_to_start (else1_to_settle_hour c)).args.bytes.now in
-    summary_fine (sheet_verdict bytes) (hour_of bytes) w.result w.ensures.answer (none_fine bytes) c.if1.false
+    let bytes = c.args.bytes.now in
+    summary_fine (sheet_verdict bytes) (hour_of bytes) c.settle_hour-hour.result c.settle_hour-hour.ensures.answer (none_fine bytes) c.if-hour-ne0.false
 
 -- behind the second the plant is there
-there : (c : tie.Else2) → (else2_to_start c).args.plant < (else2_to_start c).args.c.plants
-there c = let l = c.if2.false in omega (arith, l)
+there : (c : tie.Else-c-i) → c.args.plant < c.args.c.plants
+there c = let l = c.if-c-i.false in omega (arith, l)
 
-within : (c : tie.Else2) → (else2_to_start c).args.plant < 64
-within c = omega (arith, there c, (accepted_few _ _ (else2_to_start c).requires).plants)
+within : (c : tie.Else-c-i) → c.args.plant < 64
+within c = omega (arith, there c, (accepted_few _ _ c.requires).plants)
 
-returns : tie.Need-returns
+returns : tie.Need-returns-then-hour-ne0
 returns c =
-    let at_settle = c.before.before.before.before in
-    let at_start = settle_hour_to_start at_settle in
-    let w = at_settle.settle-hour in
-    plant_refused at_start.args.bytes.now at_start.args.plant _
-    (summary_refused (sheet_verdict at_start.args.bytes.now) (hour_of at_start.args.bytes.now) w.result
-    w.ensures.answer c.if1.true)
+    plant_refused c.args.bytes.now c.args.plant _
+    (summary_refused (sheet_verdict c.args.bytes.now) (hour_of c.args.bytes.now) c.settle_hour-hour.result
+    c.settle_hour-hour.ensures.answer c.if-hour-ne0.true)
 
-returns_2 : tie.Need-returns-2
+returns_2 : tie.Need-returns-then-c-i
 returns_2 c =
-    let at_else = c.before.before in
-    let at_start = settle_hour_to_start (else1_to_settle_hour at_else) in
-    plant_absent at_start.args.bytes.now at_start.args.c at_start.pre (fine at_else) at_start.args.plant
-    c.if2.true
+    plant_absent c.args.bytes.now c.args.c c.requires (fine c.before.before) c.args.plant
+    c.if-c-i.true
 
-add_row_at : tie.Need-overflow-add-row-at
-add_row_at c = omega (arith, accepted_few _ _ (else2_to_start c.before).requires)
+add_row_at : tie.Need-overflow_add-c
+add_row_at c = omega (arith, accepted_few _ _ c.requires)
 
-add_row_at_2 : tie.Need-overflow-add-row-at-2
-add_row_at_2 c = omega (arith, accepted_few _ _ (else2_to_start c.before).requires, within c.before)
+add_row_at_2 : tie.Need-overflow_add-c-2
+add_row_at_2 c = omega (arith, accepted_few _ _ c.requires, within c.before)
 
-mul_judge_plant : tie.Need-overflow-mul-judge-plant
-mul_judge_plant c = let w = within c.before.before.before in omega (arith, w)
+mul_judge_plant : tie.Need-offset_bounds-schedule-i
+mul_judge_plant c = let w = within (plant_of_p_to_else_c_i c) in omega (arith, w)
 
-array_read_judge_plant : tie.Need-array-read-judge-plant
-array_read_judge_plant c = within c.before.before.before
+array_read_judge_plant : tie.Need-bounds-schedule-i
+array_read_judge_plant c = within (plant_of_p_to_else_c_i c)
 
-mul_t20 : tie.Need-overflow-mul-t20
-mul_t20 c = let w = within (judge_plant_to_else2 c) in omega (arith, w)
+mul_t20 : tie.Need-offset_bounds-schedule-i-2
+mul_t20 c = let w = within (judge_plant_to_else_c_i c) in omega (arith, w)
 
-array_read_t27 : tie.Need-array-read-t27
-array_read_t27 c = within (judge_plant_to_else2 c)
+array_read_t27 : tie.Need-bounds-schedule-i-2
+array_read_t27 c = within (judge_plant_to_else_c_i c)
 
-returns_3 : tie.Need-returns-3
+returns_3 : tie.Need-returns
 returns_3 c =
-    let at_else2 = judge_plant_to_else2 c in
-    let at_else1 = else2_to_else1 at_else2 in
-    let w = (else1_to_settle_hour at_else1).settle-hour in
-    let at_start = else2_to_start at_else2 in
-    let a = at_start.args in
-    let ok = fine at_else1 in
-    let row = c.before.plant-of.ensures ∙ ap (λ (x : Words). plant_of x) c.before.before.row_at_lem.ensures in
-    plant_told_lem a.bytes.now a.c at_start.pre ok a.plant (there at_else2) c.before.plant-of.result row _ _
-    (schedule_at a.bytes.now a.c at_start.pre ok a.plant _ _ _ _ _ w.result w.ensures (there at_else2))
-    (price_told a.bytes.now a.c at_start.pre ok a.plant _ _ _ _ _ w.result w.ensures)
-    c.judge-plant.result c.judge-plant.ensures
+    let a = c.args in
+    let ok = fine (judge_plant_to_else_hour_ne0 c) in
+    let row = c.plant_of-p.ensures ∙ ap (λ (x : Words). plant_of x) c.row_at.ensures in
+    plant_told_lem a.bytes.now a.c c.requires ok a.plant (there (judge_plant_to_else_c_i c)) c.plant_of-p.result row _ _
+    (schedule_at a.bytes.now a.c c.requires ok a.plant _ _ _ _ _ c.settle_hour-hour.result c.settle_hour-hour.ensures (there (judge_plant_to_else_c_i c)))
+    (price_told a.bytes.now a.c c.requires ok a.plant _ _ _ _ _ c.settle_hour-hour.result c.settle_hour-hour.ensures)
+    c.judge_plant.result c.judge_plant.ensures
 
 pub why_plant_read_spec : {M : Type 1} → statement M
 why_plant_read_spec =
     tie.close
     (tie.spec (λ c. search rules) (λ c. search rules) (λ c κs. search rules) returns returns_2 add_row_at add_row_at_2
-    (λ c κs. search rules) (λ c κs. search rules) mul_judge_plant array_read_judge_plant (λ c κs. search rules)
-    mul_t20 array_read_t27 returns_3)
+    (λ c κs. search rules) (λ c κs. search rules) mul_judge_plant array_read_judge_plant (λ c κs. search rules) mul_t20
+    array_read_t27 returns_3)

@@ -9,21 +9,21 @@ use Rattle.telling.specs.Text.{lists_serve}
 use Rattle.telling.proofs.lists_serve.Statement.{statement}
 use Rattle.telling.proofs.lists_serve.Tie as tie
 
-mul_result : tie.Need-overflow-mul-result
+mul_result : tie.Need-overflow_mul-result
 mul_result c =
-    let n = c.before.before.before.before.before.args.c in
+    let n = c.args.c in
     let few =
-    all_true (leb n.agents most_agents) (leb n.plants most_plants ∷ leb n.contracts most_contracts ∷ []) c.before.if1.true in
+    all_true (leb n.agents most_agents) (leb n.plants most_plants ∷ leb n.contracts most_contracts ∷ []) c.if-c.true in
     let l : n.agents ≤ most_agents = leb-true n.agents most_agents few.0 in
     record { fits = omega (arith, l) }
 
-returns : tie.Need-returns
+returns : tie.Need-returns-then-c
 unfolding lists_serve
-returns c = rw c.before.before.before.before.if1.true
+returns c = rw c.if-c.true
 
-returns_2 : tie.Need-returns-2
+returns_2 : tie.Need-returns
 unfolding lists_serve
-returns_2 c = rw c.if1.false
+returns_2 c = rw c.if-c.false
 
 pub lists_serve_spec : {M : Type 1} → statement M
 lists_serve_spec = tie.close (tie.spec mul_result returns returns_2)

@@ -18,24 +18,19 @@ use Rattle.telling.proofs.put_statement.Tie as tie
 returns : tie.Need-returns
 unfolding statement_text
 returns c =
-    let r = c.before.before in
-    let g = r.before.before.before.before.before.before in
-    let p = g.before.before.before.before in
-    let k = p.before.before.before.before.before in
-    let at_start = k.before.before.before.before.before.before.before in
-    let a = at_start.args in
+    let a = c.args in
     let n = a.c in
     let l = lent a.figures.now a.money.now a.schedule.now a.amounts.now in
-    let s = at_start.requires.0 in
-    let whole : 27547 ≤ length a.s.now = at_start.requires.1 in
-    let kk = k.put-list.auto.0 in
-    let kp = p.put-list2.auto.0 in
-    let kg = g.put-agents.auto.0 in
-    let x = k.put-list.ensures.put (omega (arith, whole, s.contracts)) (le_refl (length a.s.now)) in
-    let y = p.put-list2.ensures.put (omega (arith, whole, s.contracts, s.plants, x.low)) (omega (arith, x.high, kk)) in
-    let z = g.put-agents.ensures.put (omega (arith, whole, s.contracts, s.plants, s.agents, x.low, y.low))
+    let s = c.requires.0 in
+    let whole : 27547 ≤ length a.s.now = c.requires.1 in
+    let kk = c.put_list-i.auto.s in
+    let kp = c.put_list-j.auto.s in
+    let kg = c.put_agents-k.auto.s in
+    let x = c.put_list-i.ensures.put (omega (arith, whole, s.contracts)) (le_refl (length a.s.now)) in
+    let y = c.put_list-j.ensures.put (omega (arith, whole, s.contracts, s.plants, x.low)) (omega (arith, x.high, kk)) in
+    let z = c.put_agents-k.ensures.put (omega (arith, whole, s.contracts, s.plants, s.agents, x.low, y.low))
     (omega (arith, x.high, y.high, kk, kp)) in
-    let v = r.put-row.ensures.put (omega (arith, whole, s.contracts, s.plants, s.agents, x.low, y.low, z.low))
+    let v = c.put_row.ensures.put (omega (arith, whole, s.contracts, s.plants, s.agents, x.low, y.low, z.low))
     (omega (arith, x.high, y.high, z.high, kk, kp, kg)) in
     let contracts = x.text_is ∙ ap (lines_to (contract_line l) n.contracts) (drop-length a.s.now) in
     let plants = y.text_is ∙ ap (lines_to (plant_line l) n.plants) contracts in
@@ -46,5 +41,5 @@ returns c =
 pub put_statement_spec : {M : Type 1} → statement M
 put_statement_spec =
     tie.close
-    (tie.spec (λ c. search rules) (λ c κs. search rules) (λ c. search rules) (λ c κs. search rules)
-    (λ c κs. search rules) (λ c. search rules) (λ c. search rules) (λ c κs. search rules) (λ c. search rules) returns)
+    (tie.spec (λ c κs. search rules) (λ c κs. search rules) (λ c κs. search rules) (λ c. search rules) (λ c κs. search rules)
+    (λ c. search rules) returns)

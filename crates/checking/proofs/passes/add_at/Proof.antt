@@ -4,8 +4,7 @@ use Rattle.checking.proofs.passes.add_at.Tie as tie
 
 returns : tie.Need-returns
 returns c =
-    let at_less_wide = c.before.before.before in
-    rw (at_less_wide.less-wide.ensures, c.before.before.less-wide2.ensures, c.before.less-wide3.ensures) at c.add.ensures
+    rw (c.less_wide-u.ensures, c.less_wide-w.ensures, c.less_wide-g.ensures) at c.add.ensures
 
 pub add_at_spec : {M : Type 1} → statement M
 add_at_spec =

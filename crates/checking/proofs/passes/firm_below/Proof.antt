@@ -3,7 +3,7 @@ use Rattle.checking.proofs.passes.firm_below.Statement.{statement}
 use Rattle.checking.proofs.passes.firm_below.Tie as tie
 
 returns : tie.Need-returns
-returns c = (rw c.before.wide.ensures at c.more-when.ensures.0, c.more-when.ensures.1)
+returns c = (rw c.wide-price.ensures at c.more_when.ensures.0, c.more_when.ensures.1)
 
 pub firm_below_spec : {M : Type 1} → statement M
 firm_below_spec = tie.close

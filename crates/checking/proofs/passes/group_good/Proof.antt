@@ -7,37 +7,31 @@ use borrow.Author.Rules.{rules}
 use Rattle.checking.proofs.passes.group_good.Statement.{statement}
 use Rattle.checking.proofs.passes.group_good.Tie as tie
 
-returns : tie.Need-returns
+returns : tie.Need-returns-then-k-ne-DEMANDED
 unfolding group_good
-returns c = rw (ne_eqb _ _ c.if1.true)
+returns c = rw (ne_eqb _ _ c.if-k-ne-DEMANDED.true)
 
-returns_2 : tie.Need-returns-2
+returns_2 : tie.Need-returns-then-next-g
 unfolding group_good
 returns_2 c =
-    let at_start = c.before.before.before in
-    let h : at_start.args.p + 1 < at_start.args.g = omega arith in
-    rw (eq-eqb _ _ c.before.before.if1.false, lt-ltb _ _ h)
+    let h : c.args.p + 1 < c.args.g = omega arith in
+    rw (eq-eqb _ _ c.if-k-ne-DEMANDED.false, lt-ltb _ _ h)
 
-returns_3 : tie.Need-returns-3
+returns_3 : tie.Need-returns-then-next-g-2
 unfolding group_good
 returns_3 c =
-    let at_else1 = c.before.before.before in
-    let at_start = at_else1.before in
-    let h : at_start.args.g ≤ at_start.args.p + 1 = omega arith in
-    let n : at_start.args.p + 1 ≡ at_start.args.g → ⊥ = λ e. c.if3.true (omega arith) in
-    rw (eq-eqb _ _ at_else1.if1.false, le-ltb _ _ h, ne_eqb _ _ n)
+    let h : c.args.g ≤ c.args.p + 1 = omega arith in
+    let n : c.args.p + 1 ≡ c.args.g → ⊥ = λ e. c.if-next-g-2.true (omega arith) in
+    rw (eq-eqb _ _ c.if-k-ne-DEMANDED.false, le-ltb _ _ h, ne_eqb _ _ n)
 
-returns_4 : tie.Need-returns-4
+returns_4 : tie.Need-returns
 unfolding group_good
 returns_4 c =
-    let at_else1 = c.before.before.before.before in
-    let at_start = at_else1.before in
-    let h : at_start.args.g ≤ at_start.args.p + 1 = omega arith in
-    let e : at_start.args.p + 1 ≡ at_start.args.g = omega arith in
-    rw (eq-eqb _ _ at_else1.if1.false, le-ltb _ _ h, eq-eqb _ _ e) c.in_group.ensures
+    let h : c.args.g ≤ c.args.p + 1 = omega arith in
+    let e : c.args.p + 1 ≡ c.args.g = omega arith in
+    rw (eq-eqb _ _ c.if-k-ne-DEMANDED.false, le-ltb _ _ h, eq-eqb _ _ e) c.in_group.ensures
 
 pub group_good_spec : {M : Type 1} → statement M
 group_good_spec =
     tie.close
-    (tie.spec returns (λ c κs. search rules) (λ c. search rules) returns_2 returns_3 (λ c κs. search rules)
-    returns_4)
+    (tie.spec returns (λ c κs. search rules) (λ c. search rules) returns_2 returns_3 (λ c κs. search rules) returns_4)

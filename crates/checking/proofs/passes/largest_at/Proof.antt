@@ -3,7 +3,7 @@ use Rattle.checking.proofs.passes.largest_at.Statement.{statement}
 use Rattle.checking.proofs.passes.largest_at.Tie as tie
 
 returns : tie.Need-returns
-returns c = rw c.before.wide.ensures at c.most-when.ensures
+returns c = rw c.wide-price.ensures at c.most_when.ensures
 
 pub largest_at_spec : {M : Type 1} → statement M
 largest_at_spec = tie.close

@@ -4,11 +4,11 @@ use borrow.Author.Rules.{rules}
 use Rattle.checking.proofs.passes.sunk.Statement.{statement}
 use Rattle.checking.proofs.passes.sunk.Tie as tie
 
-returns : tie.Need-returns
-returns c = rw (pick_true _ _ c.before.before.if1.true) (omega arith)
+returns : tie.Need-returns-then-t
+returns c = rw (pick_true _ _ c.if-t.true) (omega arith)
 
-returns_2 : tie.Need-returns-2
-returns_2 c = rw (pick_false _ _ c.if1.false) (omega arith)
+returns_2 : tie.Need-returns
+returns_2 c = rw (pick_false _ _ c.if-t.false) (omega arith)
 
 pub sunk_spec : {M : Type 1} → statement M
 sunk_spec = tie.close

@@ -10,30 +10,26 @@ use Rattle.checking.proofs.Loops.{every_none, every_step}
 use Rattle.checking.proofs.plants.in_order.Statement.{statement}
 use Rattle.checking.proofs.plants.in_order.Tie as tie
 
-abbrev invariant_loop : tie.invariant-loop
+abbrev invariant_loop : tie.invariant-loop-i
 invariant_loop offers available n schedule dearest fine₀ i₀ fine i =
     (i ≤ n) × (fine ≡ every i (λ k. order_test dearest (at offers k) (at available k) (at schedule k)))
 
-abbrev decreases_loop : tie.decreases-loop
+abbrev decreases_loop : tie.decreases-loop-i
 decreases_loop offers available n schedule dearest fine₀ i₀ fine i = n - i
 
--- ways back: X-to-Y leads from the place X of the code to the earlier place Y
-abbrev placed_to_loop : tie.After-placed invariant_loop decreases_loop → tie.At-loop invariant_loop decreases_loop
-placed_to_loop c = c.before.before.before.before.before
-
-loop_holds : tie.Need-loop-init invariant_loop decreases_loop
+loop_holds : tie.Need-loop-i-init invariant_loop decreases_loop
 loop_holds c = (omega arith, sym (every_none _))
 
-loop_again : tie.Need-loop-preserved invariant_loop decreases_loop
-loop_again c = (omega arith, ap₂ (λ (y z : Bool). y && z) (placed_to_loop c).loop.invariant.1 c.placed.ensures ∙ sym (every_step _ _))
+loop_again : tie.Need-loop-i-preserved invariant_loop decreases_loop
+loop_again c = (omega arith, ap₂ (λ (y z : Bool). y && z) c.loop-i.invariant.1 c.placed-one.ensures ∙ sym (every_step _ _))
 
 returns : tie.Need-returns invariant_loop decreases_loop
 returns c =
-    let e : c.before.loop.i ≡ c.before.before.before.args.n = omega arith in rw e at c.before.loop.invariant.1
+    let e : c.loop-i.i ≡ c.args.n = omega arith in rw e at c.loop-i.invariant.1
 
 pub in_order_spec : {M : Type 1} → statement M
 in_order_spec =
     tie.close
     (tie.spec invariant_loop decreases_loop loop_holds (λ c. omega arith) (λ c. omega arith) (λ c. omega arith)
-    (λ c. omega arith) (λ c. omega arith) (λ c. omega arith) (λ c κs. search rules) (λ c. search rules)
-    (λ c. search rules) loop_again returns)
+    (λ c. omega arith) (λ c. omega arith) (λ c. omega arith) (λ c κs. search rules) (λ c. search rules) (λ c. search rules)
+    loop_again returns)

@@ -13,69 +13,58 @@ use Rattle.checking.proofs.Fronts.{count_holders, own_is, schedule_is, price_is}
 use Rattle.checking.proofs.plants.judge.Statement.{statement}
 use Rattle.checking.proofs.plants.judge.Tie as tie
 
--- ways back: X-to-Y leads from the place X of the code to the earlier place Y
-abbrev holders_to_start : tie.After-holders → tie.Start
-holders_to_start c = c.before.before.before.before
-
+-- ways back: X_to_Y leads from the place X of the code to the earlier place Y
 abbrev columns_to_start : tie.After-columns → tie.Start
-columns_to_start c = holders_to_start c.before.before.before.before.before
+columns_to_start c = c.before.before.before.before.before.before.before.before.before
 
-abbrev tally_to_columns : tie.After-tally → tie.After-columns
-tally_to_columns c = c.before.before.before
+abbrev holders_2_1_to_start : tie.After-holders-2-1 → tie.Start
+holders_2_1_to_start c = columns_to_start c.before
 
-abbrev available2_to_tally : tie.After-available2 → tie.After-tally
-available2_to_tally c = c.before.before.before.before.before.before
+abbrev struct_known_2_1_to_columns : tie.After-struct_known-2-1 → tie.After-columns
+struct_known_2_1_to_columns c = c.before.before.before.before.before.before.before.before.before.before.before.before.before.before.before
 
-abbrev available2_to_start : tie.After-available2 → tie.Start
-available2_to_start c = columns_to_start (tally_to_columns (available2_to_tally c))
+abbrev available_2_1_to_start : tie.After-available-2-1 → tie.Start
+available_2_1_to_start c = holders_2_1_to_start c.before.before.before.before.before.before.before.before
 
-abbrev last_to_run_all : tie.After-struct-known2 → tie.After-run-all
-last_to_run_all c = c.before.before.before.before.before
-
-abbrev last_to_tally : tie.After-struct-known2 → tie.After-tally
-last_to_tally c = available2_to_tally (last_to_run_all c).before
+abbrev available_3_1_to_start : tie.After-available-3-1 → tie.Start
+available_3_1_to_start c = available_2_1_to_start c.before.before.before
 
 few : (c : tie.Start) → c.args.c.plants ≤ most_plants
 few c = (accepted_few _ _ c.requires.0).plants
 
 holders : (c : tie.After-columns)
-    → take (columns_to_start c).args.c.plants c.columns.new.1.1.0
-    ≡ (columns_of (columns_to_start c).args.bytes.now (columns_to_start c).args.c).holders
+    → take c.args.c.plants c.columns.new.holders
+    ≡ (columns_of c.args.bytes.now c.args.c).holders
 holders c = front_is _ _ _ _ (few (columns_to_start c)) (plants_long _ _) c.columns.ensures.holders
 
-array_share_prefix_holders : tie.Need-array-share-prefix-holders
+array_share_prefix_holders : tie.Need-slice_bounds-holders-end
 array_share_prefix_holders c = front_fits _ _ _ _ c.columns.ensures.holders (few (columns_to_start c))
 
-slice_aggregate_tally : tie.Need-slice-aggregate-tally
+slice_aggregate_tally : tie.Need-slice_bounds-tally-end
 slice_aggregate_tally c =
-    let l = c.before in sym (front_long _ _ _ _ l.columns.ensures.holders (few (columns_to_start l)))
+    sym (front_long _ _ _ _ c.columns.ensures.holders (few (holders_2_1_to_start c)))
 
 tally_requires : tie.Need-tally-requires
 tally_requires c κs =
-    let l = c.before.before in
-    let s = columns_to_start l in
-    count_holders _ _ s.pre.0 _ s.pre.1.0 _ _ (holders l) s.pre.1.1
+    count_holders _ _ c.requires.0 _ c.requires.1.0 _ _ (holders c.before.before) c.requires.1.1
 
-run_all_requires : tie.Need-run-all-requires
-run_all_requires c κs = let s = available2_to_start c in (few s, s.pre.1.0)
+run_all_requires : tie.Need-run_all-v-requires
+run_all_requires c κs = (few (available_2_1_to_start c), c.requires.1.0)
 
-in_order_requires : tie.Need-in-order-requires
-in_order_requires c κs = let s = available2_to_start c.before.before.before in (few s, s.pre.1.0)
+in_order_requires : tie.Need-in_order-order-requires
+in_order_requires c κs = (few (available_3_1_to_start c), c.requires.1.0)
 
-same_length : tie.Need-same-length
-same_length c = (last_to_tally c).tally.ensures.long
+same_length : tie.Need-shape_of-own
+same_length c = c.tally.ensures.long
 
 returns : tie.Need-returns
 returns c =
-    let t = last_to_tally c in
-    let l = tally_to_columns t in
-    let s = columns_to_start l in
-    let v = (last_to_run_all c).run-all.ensures in
+    let v = c.run_all-v.ensures in
     record {
-      good = schedule_is _ _ s.pre.0 _ s.pre.1.0 _ _ l.columns.ensures _ v _ _ c.before.before.in_order.ensures;
-      price = price_is _ _ s.pre.0 _ s.pre.1.0 _ _ l.columns.ensures _ v;
-      own = own_is _ _ s.pre.0 _ s.pre.1.0 _ _ _ (holders l) t.tally.ensures;
-      long = t.tally.ensures.long;
+      good = schedule_is _ _ c.requires.0 _ c.requires.1.0 _ _ c.columns.ensures _ v _ _ c.in_order-order.ensures;
+      price = price_is _ _ c.requires.0 _ c.requires.1.0 _ _ c.columns.ensures _ v;
+      own = own_is _ _ c.requires.0 _ c.requires.1.0 _ _ _ (holders (struct_known_2_1_to_columns c)) c.tally.ensures;
+      long = c.tally.ensures.long;
     }
 
 pub judge_spec : {M : Type 1} → statement M

@@ -7,42 +7,36 @@ use Rattle.sums.proofs.Fill.{filled_none, filled_more}
 use Rattle.checking.proofs.shares.differences.Statement.{statement}
 use Rattle.checking.proofs.shares.differences.Tie as tie
 
-abbrev invariant_loop : tie.invariant-loop
+abbrev invariant_loop : tie.invariant-loop-a
 invariant_loop xs ys n out₀ a₀ out a =
     (a ≤ n) × Filled 0 out₀ out a (λ k. at xs k - at ys k)
 
-abbrev decreases_loop : tie.decreases-loop
+abbrev decreases_loop : tie.decreases-loop-a
 decreases_loop xs ys n out₀ a₀ out a = n - a
 
--- ways back: X-to-Y leads from the place X of the code to the earlier place Y
-abbrev less_to_loop : tie.After-less invariant_loop decreases_loop → tie.At-loop invariant_loop decreases_loop
-less_to_loop c = c.before.before.before.before
-
-loop_holds : tie.Need-loop-init invariant_loop decreases_loop
+loop_holds : tie.Need-loop-a-init invariant_loop decreases_loop
 loop_holds c = (omega arith, filled_none 0 _ _)
 
-mul_out : tie.Need-overflow-mul-out invariant_loop decreases_loop
-mul_out c = omega (arith, (less_to_loop c).loop.invariant.1.long)
+mul_out : tie.Need-offset_bounds-out-a invariant_loop decreases_loop
+mul_out c = omega (arith, c.loop-a.invariant.1.long)
 
-slice_write_out : tie.Need-slice-write-out invariant_loop decreases_loop
-slice_write_out c = omega (arith, (less_to_loop c).loop.invariant.1.long)
+slice_write_out : tie.Need-bounds-out-a invariant_loop decreases_loop
+slice_write_out c = omega (arith, c.loop-a.invariant.1.long)
 
-loop_again : tie.Need-loop-preserved invariant_loop decreases_loop
+loop_again : tie.Need-loop-a-preserved invariant_loop decreases_loop
 loop_again c =
-    let l = (less_to_loop c).loop in
-    (omega arith, filled_more 0 _ l.out l.a _ _ (omega (arith, l.inv.1.long)) c.less.ensures l.inv.1)
+    (omega arith, filled_more 0 _ c.loop-a.out c.loop-a.a _ _ (omega (arith, c.loop-a.invariant.1.long)) c.less.ensures c.loop-a.invariant.1)
 
-same_length : tie.Need-same-length invariant_loop decreases_loop
-same_length c = c.before.loop.invariant.1.long
+same_length : tie.Need-shape_of-out invariant_loop decreases_loop
+same_length c = c.loop-a.invariant.1.long
 
 returns : tie.Need-returns invariant_loop decreases_loop
 returns c =
-    let at_start = c.before.before.before in
-    let e : c.before.loop.a ≡ at_start.args.n = omega arith in rw e at c.before.loop.invariant.1
+    let e : c.loop-a.a ≡ c.args.n = omega arith in rw e at c.loop-a.invariant.1
 
 pub differences_spec : {M : Type 1} → statement M
 differences_spec =
     tie.close
     (tie.spec invariant_loop decreases_loop loop_holds (λ c. search rules) (λ c. search rules) (λ c. search rules)
-    (λ c. search rules) (λ c κs. search rules) mul_out slice_write_out (λ c. search rules)
-    (λ c. search rules) loop_again same_length returns)
+    (λ c. search rules) (λ c κs. search rules) mul_out slice_write_out (λ c. search rules) (λ c. search rules) loop_again
+    same_length returns)

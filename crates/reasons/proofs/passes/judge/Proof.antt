@@ -5,42 +5,37 @@ use Rattle.reasons.specs.Parts.{reason_in}
 use Rattle.reasons.proofs.passes.judge.Statement.{statement}
 use Rattle.reasons.proofs.passes.judge.Tie as tie
 
-returns : tie.Need-returns
+returns : tie.Need-returns-then-me-eq-FIXED
 unfolding reason_in
-returns c = rw (eq-eqb c.before.before.before.args.me.kind fixed c.if1.true)
+returns c = rw (eq-eqb c.args.me.kind fixed c.if-me-eq-FIXED.true)
 
-returns_2 : tie.Need-returns-2
+returns_2 : tie.Need-returns-then-me-eq-CONDITIONAL
 unfolding reason_in
 returns_2 c =
-    let at_then2 = c.before.before in
-    let at_else1 = at_then2.before.before in
-    let me = at_else1.before.before.before.args.me in
+    let me = c.args.me in
     rw (
-      c.of-conditional.ensures,
-      c.before.pass.ensures,
-      ne_eqb me.kind fixed at_else1.if1.false,
-      eq-eqb me.kind conditional at_then2.if2.true,
+      c.of_conditional.ensures,
+      c.pass.ensures,
+      ne_eqb me.kind fixed c.if-me-eq-FIXED.false,
+      eq-eqb me.kind conditional c.if-me-eq-CONDITIONAL.true,
     )
 
-returns_3 : tie.Need-returns-3
+returns_3 : tie.Need-returns
 unfolding reason_in
 returns_3 c =
-    let at_less = c.before.before.before in
-    let at_else2 = at_less.before.before in
-    let at_else1 = at_else2.before.before in
-    let me = at_else1.before.before.before.args.me in
+    let me = c.args.me in
     rw (
-      c.of-demanded.ensures,
-      at_less.less.ensures,
-      at_less.before.pass2.ensures,
-      c.before.before.pass3.ensures,
-      c.before.pass4.ensures,
-      ne_eqb me.kind fixed at_else1.if1.false,
-      ne_eqb me.kind conditional at_else2.if2.false,
+      c.of_demanded.ensures,
+      c.less-rest.ensures,
+      c.pass-2.ensures,
+      c.pass-cheaper.ensures,
+      c.pass-total.ensures,
+      ne_eqb me.kind fixed c.if-me-eq-FIXED.false,
+      ne_eqb me.kind conditional c.if-me-eq-CONDITIONAL.false,
     )
 
 pub judge_spec : {M : Type 1} → statement M
 judge_spec =
     tie.close
-    (tie.spec returns (λ c κs. search rules) (λ c κs. search rules) returns_2 (λ c κs. search rules)
-    (λ c κs. search rules) (λ c κs. search rules) (λ c κs. search rules) (λ c κs. search rules) returns_3)
+    (tie.spec returns (λ c κs. search rules) (λ c κs. search rules) returns_2 (λ c κs. search rules) (λ c κs. search rules)
+    (λ c κs. search rules) (λ c κs. search rules) (λ c κs. search rules) returns_3)

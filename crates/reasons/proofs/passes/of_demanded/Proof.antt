@@ -5,25 +5,25 @@ use borrow.Author.Tests.{le-leb, lt-leb}
 use Rattle.reasons.proofs.passes.of_demanded.Statement.{statement}
 use Rattle.reasons.proofs.passes.of_demanded.Tie as tie
 
-returns : tie.Need-returns
+returns : tie.Need-returns-then-rest-cheaper
 returns c =
-    let a = c.before.before.args in
+    let a = c.args in
     let y : a.rest < a.cheaper + a.total = omega arith in
-    rw (c.before.less.ensures, lt-leb (a.cheaper + a.total) a.rest y, lt-leb a.cheaper a.rest c.if1.true)
+    rw (c.less-remainder.ensures, lt-leb (a.cheaper + a.total) a.rest y, lt-leb a.cheaper a.rest c.if-rest-cheaper.true)
 
-returns_2 : tie.Need-returns-2
+returns_2 : tie.Need-returns-then-total-remainder
 returns_2 c =
-    let a = c.before.before.before.args in
+    let a = c.args in
     let y : a.cheaper + a.total ≤ a.rest = omega arith in
-    rw (c.before.before.less.ensures, le-leb (a.cheaper + a.total) a.rest y)
+    rw (c.less-remainder.ensures, le-leb (a.cheaper + a.total) a.rest y)
 
-returns_3 : tie.Need-returns-3
+returns_3 : tie.Need-returns
 returns_3 c =
-    let a = c.before.before.before.args in
+    let a = c.args in
     let y : a.rest < a.cheaper + a.total = omega arith in
     let z : a.cheaper ≤ a.rest = omega arith in
     rw (
-      c.before.before.less.ensures,
+      c.less-remainder.ensures,
       lt-leb (a.cheaper + a.total) a.rest y,
       le-leb a.cheaper a.rest z,
     )

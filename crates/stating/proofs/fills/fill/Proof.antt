@@ -49,10 +49,10 @@ loop_again c =
     let had = lent c.loop-i.figures c.loop-i.money c.loop-i.schedule c.loop-i.amounts in
     let k = c.put_line.auto in (
       omega arith,
-      k.1.0 ∙ c.loop-i.invariant.1,
-      k.1.1.0 ∙ c.loop-i.invariant.2,
-      k.1.1.1.0 ∙ c.loop-i.invariant.3,
-      k.1.1.1.1.0 ∙ c.loop-i.invariant.4,
+      k.figures ∙ c.loop-i.invariant.1,
+      k.money ∙ c.loop-i.invariant.2,
+      k.schedule ∙ c.loop-i.invariant.3,
+      k.amounts ∙ c.loop-i.invariant.4,
       c.loop-i.invariant.5
           ∙ laws.onward_next s had c.loop-i.i c.line_end-e.result (omega arith) c.line_end-e.ensures.cuts
           ∙ ap (laws.onward s (c.line_end-e.result + 1))

@@ -46,7 +46,7 @@ loop_again c =
     let f = c.mark_line-j.ensures in
     let o = laws.line_once a.c (seen c.loop-i.j c.loop-i.marks) (take (c.line_end-e.result - c.loop-i.i) (drop c.loop-i.i s)) in
     let q = ap (λ (k : Marked). k.line) f in
-    let z = c.mark_line-j.auto.1.1.1.0 in (
+    let z = c.mark_line-j.auto.marks in (
       omega arith,
       omega (arith, o, q),
       record { long = z ∙ c.loop-i.invariant.2.long; few = c.loop-i.invariant.2.few },

@@ -18,24 +18,18 @@ use Rattle.telling.proofs.putting.put_agent.Tie as tie
 returns : tie.Need-returns
 unfolding agent_line
 returns c =
-    let w = c.before.before in
-    let j = w.before.before.before.before.before in
-    let known = j.before.before.before.before.before.before in
-    let m = known.before.before.before.before.before in
-    let o = m.before.before in
-    let b = o.before.before.before in
-    let a = b.before.before.before.before.args in
+    let a = c.args in
     let l = lent a.figures.now a.money.now [] [] in
-    let kb = b.byte.auto.0 in
-    let km = m.signed.auto.0 in
-    let kj = j.put-joined.auto.0 in
-    let owed = to_z-of_z w64 (get_or a.money.now a.a (pos 0)) (record { sfits = o.owed.given }) in
+    let kb = c.byte-i.auto.s in
+    let km = c.signed-j.auto.s in
+    let kj = c.put_joined-m.auto.s in
+    let owed = to_z-of_z w64 (get_or a.money.now a.a (pos 0)) (record { sfits = c.owed-1.given }) in
     record {
       put = λ p q.
-          let x = b.byte.ensures.put (omega (arith, p)) q in
-          let y = m.signed.ensures.put (omega (arith, p, x.low)) (omega (arith, q, x.high, kb)) in
-          let z = j.put-joined.ensures.put (omega (arith, p, x.low, y.low)) (omega (arith, q, x.high, y.high, kb, km)) in
-          let v = w.word.ensures.put (omega (arith, p, x.low, y.low, z.low))
+          let x = c.byte-i.ensures.put (omega (arith, p)) q in
+          let y = c.signed-j.ensures.put (omega (arith, p, x.low)) (omega (arith, q, x.high, kb)) in
+          let z = c.put_joined-m.ensures.put (omega (arith, p, x.low, y.low)) (omega (arith, q, x.high, y.high, kb, km)) in
+          let v = c.word.ensures.put (omega (arith, p, x.low, y.low, z.low))
           (omega (arith, q, x.high, y.high, z.high, kb, km, kj)) in
           record {
             text_is =
@@ -51,9 +45,8 @@ returns c =
 pub put_agent_spec : {M : Type 1} → statement M
 put_agent_spec =
     tie.close
-    (tie.spec (λ c κs. search rules) (λ c. search rules) (λ c. search rules) (λ c κs. search rules)
-    (λ c. search rules) (λ c. search rules) (λ c. search rules) (λ c. search rules) (λ c. search rules)
-    (λ c. search rules) (λ c. search rules) (λ c. search rules) (λ c. search rules) (λ c. search rules)
-    (λ c. search rules) (λ c. search rules) (λ c. search rules) (λ c. search rules) (λ c. search rules)
-    (λ c. search rules) (λ c. search rules) (λ c. search rules) (λ c. search rules) (λ c. search rules)
-    (λ c κs. search rules) (λ c. search rules) (λ c κs. search rules) (λ c. search rules) returns)
+    (tie.spec (λ c κs. search rules) (λ c. search rules) (λ c. search rules) (λ c κs. search rules) (λ c. search rules)
+    (λ c. search rules) (λ c. search rules) (λ c. search rules) (λ c. search rules) (λ c. search rules) (λ c. search rules)
+    (λ c. search rules) (λ c. search rules) (λ c. search rules) (λ c. search rules) (λ c. search rules) (λ c. search rules)
+    (λ c. search rules) (λ c. search rules) (λ c. search rules) (λ c. search rules) (λ c. search rules) (λ c. search rules)
+    (λ c. search rules) (λ c κs. search rules) (λ c κs. search rules) (λ c. search rules) returns)

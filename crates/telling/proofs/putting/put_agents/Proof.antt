@@ -9,48 +9,44 @@ use Rattle.telling.proofs.Going.{Going, going_more, going_done}
 use Rattle.telling.proofs.putting.put_agents.Statement.{statement}
 use Rattle.telling.proofs.putting.put_agents.Tie as tie
 
-abbrev invariant_loop : tie.invariant-loop
+abbrev invariant_loop : tie.invariant-loop-left
 invariant_loop s₀ at figures money n i₀ left₀ s i left =
     (left ≤ n) × (length s ≡ length s₀)
     × (175 * n ≤ at → at ≤ length s₀ → Going 175 (agent_line (lent figures money [] [])) s₀ at n s i left)
 
-abbrev decreases_loop : tie.decreases-loop
+abbrev decreases_loop : tie.decreases-loop-left
 decreases_loop s₀ at figures money n i₀ left₀ s i left = left
 
-loop_holds : tie.Need-loop-init invariant_loop decreases_loop
+loop_holds : tie.Need-loop-left-init invariant_loop decreases_loop
 loop_holds c = (omega arith, refl, λ p q. record { low = omega arith; high = omega arith; text = refl })
 
-loop_again : tie.Need-loop-preserved invariant_loop decreases_loop
+loop_again : tie.Need-loop-left-preserved invariant_loop decreases_loop
 loop_again c =
-    let u = c.before.before.put-agent in
-    let t = c.before.before.before.before in
-    let b = t.before.loop in
-    let a = t.before.before.before.before.args in
+    let a = c.args in
     let g = agent_line (lent a.figures.now a.money.now [] []) in
-    let z : length b.s ≡ length a.s.now = b.invariant.1 in (
+    let z : length c.loop-left.s ≡ length a.s.now = c.loop-left.invariant.1 in (
       omega arith,
-      u.auto.0 ∙ z,
+      c.put_agent-i.auto.s ∙ z,
       λ p q.
-          let f = b.invariant.2 p q in
-          let w = u.ensures.put (omega (arith, f.low, p, t.loop-test.true)) (omega (arith, f.high, q, z)) in
+          let f = c.loop-left.invariant.2 p q in
+          let w = c.put_agent-i.ensures.put (omega (arith, f.low, p, c.loop-left-test.true)) (omega (arith, f.high, q, z)) in
           record {
-            low = omega (arith, f.low, w.low, t.loop-test.true);
+            low = omega (arith, f.low, w.low, c.loop-left-test.true);
             high = omega (arith, f.high, w.high);
-            text = going_more g a.n (drop a.at a.s.now) b.s b.i b.left f.text _ t.loop-test.true w.text_is;
+            text = going_more g a.n (drop a.at a.s.now) c.loop-left.s c.loop-left.i c.loop-left.left f.text _ c.loop-left-test.true w.text_is;
           },
     )
 
 returns : tie.Need-returns invariant_loop decreases_loop
 returns c =
-    let b = c.before.loop in
-    let a = c.before.before.before.before.args in
+    let a = c.args in
     record {
       put = λ p q.
-          let f = b.invariant.2 p q in
-          let e : b.left ≤ 0 = omega arith in
+          let f = c.loop-left.invariant.2 p q in
+          let e : c.loop-left.left ≤ 0 = omega arith in
           record {
             text_is = going_done (agent_line (lent a.figures.now a.money.now [] [])) a.n (drop a.at a.s.now)
-                b.s b.i b.left f.text e;
+                c.loop-left.s c.loop-left.i c.loop-left.left f.text e;
             low = omega (arith, f.low, e);
             high = f.high;
           };
@@ -59,5 +55,5 @@ returns c =
 pub put_agents_spec : {M : Type 1} → statement M
 put_agents_spec =
     tie.close
-    (tie.spec invariant_loop decreases_loop loop_holds (λ c. omega arith) (λ c κs. (omega arith, omega arith, omega arith)) (λ c. omega arith) loop_again
-    (λ c. c.before.loop.invariant.1) returns)
+    (tie.spec invariant_loop decreases_loop loop_holds (λ c. omega arith) (λ c κs. (omega arith, omega arith, omega arith))
+    (λ c. omega arith) loop_again (λ c. c.loop-left.invariant.1) returns)
