@@ -8,11 +8,11 @@ use Rattle.capi.proofs.Told.{told_short, told_all}
 use Rattle.capi.proofs.naomhral_settle.Statement.{statement}
 use Rattle.capi.proofs.naomhral_settle.Tie as tie
 
-returns : tie.Need-returns
+returns : tie.Need-returns-then-summary-lt5
 returns c =
     record {
-      told = told_short c.if1.true;
-      hour = rw (lt-leb _ _ c.if1.true)
+      told = told_short c.if-summary-lt5.true;
+      hour = rw (lt-leb _ _ c.if-summary-lt5.true)
           (record {
             answered = refl;
             figures = filled_none 0 _ _;
@@ -22,20 +22,17 @@ returns c =
           });
     }
 
-returns_2 : tie.Need-returns-2
+returns_2 : tie.Need-returns
 returns_2 c =
-    let at_slice_known6 = c.before.before.before.before.before.before.before in
-    let at_settle = at_slice_known6.before.before.before.before.before in
-    let at_else1 = at_settle.before.before.before.before.before in
-    let room = at_else1.if1.false in
-    let s = at_settle.settle.ensures in
+    let room = c.if-summary-lt5.false in
+    let s = c.settle-s.ensures in
     record {
-      told = told_all _ room (ap summary_answer (sym s.answered)) c.before.before.tell.ensures;
+      told = told_all _ room (ap summary_answer (sym s.answered)) c.tell.ensures;
       hour = rw (le-leb _ _ room, ← s.answered) s;
     }
 
 pub naomhral_settle_spec : {M : Type 1} → statement M
 naomhral_settle_spec =
     tie.close
-    (tie.spec returns (λ c κs. search rules) (λ c. search rules) (λ c κs. search rules) (λ c. search rules)
-    (λ c. search rules) (λ c. search rules) (λ c. search rules) (λ c. search rules) returns_2)
+    (tie.spec returns (λ c κs. search rules) (λ c. search rules) (λ c κs. search rules) (λ c. search rules) (λ c. search rules)
+    (λ c. search rules) (λ c. search rules) (λ c. search rules) returns_2)

@@ -6,8 +6,8 @@ use Rattle.capi.proofs.naomhral_share.Tie as tie
 
 returns : tie.Need-returns
 returns c =
-    let s = c.before.before.before.share.ensures in
-    record { number = c.number_of_lem.ensures ∙ ap number_of s.answer; shares = s.result }
+    let s = c.share.ensures in
+    record { number = c.number_of.ensures ∙ ap number_of s.answer; shares = s.result }
 
 pub naomhral_share_spec : {M : Type 1} → statement M
 naomhral_share_spec =

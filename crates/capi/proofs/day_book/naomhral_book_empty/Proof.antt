@@ -4,7 +4,7 @@ use Rattle.capi.proofs.day_book.naomhral_book_empty.Statement.{statement}
 use Rattle.capi.proofs.day_book.naomhral_book_empty.Tie as tie
 
 returns : tie.Need-returns
-returns c = emptied_told _ _ _ _ c.before.before.before.empty.ensures c.number_of_lem.ensures
+returns c = emptied_told _ _ _ _ c.empty.ensures c.number_of.ensures
 
 pub naomhral_book_empty_spec : {M : Type 1} → statement M
 naomhral_book_empty_spec =

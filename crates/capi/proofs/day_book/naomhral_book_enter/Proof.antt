@@ -4,7 +4,7 @@ use Rattle.capi.proofs.day_book.naomhral_book_enter.Statement.{statement}
 use Rattle.capi.proofs.day_book.naomhral_book_enter.Tie as tie
 
 returns : tie.Need-returns
-returns c = cells_told _ _ _ _ _ _ c.before.before.before.enter.ensures c.number_of_lem.ensures
+returns c = cells_told _ _ _ _ _ _ c.enter.ensures c.number_of.ensures
 
 pub naomhral_book_enter_spec : {M : Type 1} → statement M
 naomhral_book_enter_spec =

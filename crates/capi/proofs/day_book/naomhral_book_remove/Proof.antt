@@ -4,7 +4,7 @@ use Rattle.capi.proofs.day_book.naomhral_book_remove.Statement.{statement}
 use Rattle.capi.proofs.day_book.naomhral_book_remove.Tie as tie
 
 returns : tie.Need-returns
-returns c = cells_told _ _ _ _ _ _ c.before.before.before.remove.ensures c.number_of_lem.ensures
+returns c = cells_told _ _ _ _ _ _ c.remove.ensures c.number_of.ensures
 
 pub naomhral_book_remove_spec : {M : Type 1} → statement M
 naomhral_book_remove_spec =

@@ -3,14 +3,12 @@ use Rattle.capi.proofs.ToldText.{text_short, text_told}
 use Rattle.capi.proofs.texts.naomhral_sheet_text.Statement.{statement}
 use Rattle.capi.proofs.texts.naomhral_sheet_text.Tie as tie
 
-returns : tie.Need-returns
-returns c = text_short c.if1.true
+returns : tie.Need-returns-then-answer-lt3
+returns c = text_short c.if-answer-lt3.true
 
-returns_2 : tie.Need-returns-2
+returns_2 : tie.Need-returns
 returns_2 c =
-    let at_told = c.before.before in
-    let at_write = at_told.before.before.before.before in
-    text_told at_write.before.before.if1.false at_write.write.ensures at_told.tell-printed.ensures
+    text_told c.if-answer-lt3.false c.write-p.ensures c.tell_printed.ensures
 
 pub naomhral_sheet_text_spec : {M : Type 1} → statement M
 naomhral_sheet_text_spec =

@@ -3,14 +3,12 @@ use Rattle.capi.proofs.ToldText.{text_short, text_told}
 use Rattle.capi.proofs.texts.naomhral_statement_text.Statement.{statement}
 use Rattle.capi.proofs.texts.naomhral_statement_text.Tie as tie
 
-returns : tie.Need-returns
-returns c = text_short c.if1.true
+returns : tie.Need-returns-then-answer-lt3
+returns c = text_short c.if-answer-lt3.true
 
-returns_2 : tie.Need-returns-2
+returns_2 : tie.Need-returns
 returns_2 c =
-    let at_told = c.before.before in
-    let at_tell = at_told.before.before.before.before in
-    text_told at_tell.before.before.if1.false at_tell.tell.ensures at_told.tell-printed.ensures
+    text_told c.if-answer-lt3.false c.tell-p.ensures c.tell_printed.ensures
 
 pub naomhral_statement_text_spec : {M : Type 1} → statement M
 naomhral_statement_text_spec =

@@ -7,18 +7,15 @@ use Rattle.capi.proofs.ToldText.{listed_as}
 use Rattle.capi.proofs.texts.tell_printed.Statement.{statement}
 use Rattle.capi.proofs.texts.tell_printed.Tie as tie
 
-returns : tie.Need-returns
+returns : tie.Need-returns-in-Done
 returns c =
-    let at_tell = c.before.before in
-    let at_narrow = at_tell.before.before.before in
     let n : ℕ → List ℕ = λ z. 0 ∷ 0 ∷ z ∷ [] in
-    listed_as _ _ 3 (ap printed_answer at_narrow.before.before.p.given.1 ∙ ap n (sym at_narrow.narrow.ensures))
-    at_tell.tell.ensures
+    listed_as _ _ 3 (ap printed_answer c.in-Done.is ∙ ap n (sym c.narrow.ensures))
+    c.tell.ensures
 
-returns_2 : tie.Need-returns-2
+returns_2 : tie.Need-returns-in-Refused
 returns_2 c =
-    let at_tell = c.before.before in
-    listed_as _ _ 3 (ap printed_answer at_tell.before.before.before.before.p2.given.1) at_tell.tell2.ensures
+    listed_as _ _ 3 (ap printed_answer c.in-Refused.is) c.tell-in-Refused.ensures
 
 pub tell_printed_spec : {M : Type 1} → statement M
 tell_printed_spec =

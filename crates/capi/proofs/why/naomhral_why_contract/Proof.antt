@@ -6,38 +6,22 @@ use Rattle.capi.proofs.Because.{contract_because}
 use Rattle.capi.proofs.why.naomhral_why_contract.Statement.{statement}
 use Rattle.capi.proofs.why.naomhral_why_contract.Tie as tie
 
--- ways back: X-to-Y leads from the place X of the code to the earlier place Y
-abbrev slice_known2_to_second_value : tie.After-slice-known2 → tie.After-second-value
-slice_known2_to_second_value c = c.before.before.before.before.before
+returns : tie.Need-returns-then-answer-lt8
+returns c = told_short c.if-answer-lt8.true
 
-abbrev second_value_to_k : tie.After-second-value → tie.After-k
-second_value_to_k c = c.before.before.before.before
-
-abbrev slice_known3_to_why : tie.After-slice-known3 → tie.After-why
-slice_known3_to_why c = c.before.before.before.before.before.before
-
-returns : tie.Need-returns
-returns c = told_short c.if1.true
-
-returns_2 : tie.Need-returns-2
+returns_2 : tie.Need-returns-in-Because
 returns_2 c =
-    let at_second = slice_known2_to_second_value c in
-    let at_first = at_second.before in
-    let at_k = second_value_to_k at_second in
-    let at_why = at_k.before.before in
-    let e = sym at_why.why-contract.ensures ∙ at_k.k.given.1 in
-    told_all _ at_why.before.if1.left
+    let e = sym c.why_contract.ensures ∙ c.in-Because.is in
+    told_all _ c.if-answer-lt8.false
     (ap contract_answer e
-    ∙ contract_because at_k.k.given.0.0 _ _ _ at_first.before.contract_number_lem.ensures
-    at_first.first-value.ensures at_second.second-value.ensures)
-    c.before.before.tell.ensures
+    ∙ contract_because c.in-Because.k _ _ _ c.contract_number-reason.ensures
+    c.first_value-first.ensures c.second_value-second.ensures)
+    c.tell.ensures
 
-returns_3 : tie.Need-returns-3
+returns_3 : tie.Need-returns-in-Refused
 returns_3 c =
-    let at_refusal = slice_known3_to_why c in
-    let at_why = at_refusal.before.before in
-    let e = sym at_why.why-contract.ensures ∙ at_refusal.why.given.1 in
-    told_all _ at_why.before.if1.left (ap contract_answer e) c.before.before.tell2.ensures
+    let e = sym c.why_contract.ensures ∙ c.in-Refused.is in
+    told_all _ c.if-answer-lt8.false (ap contract_answer e) c.tell-in-Refused.ensures
 
 pub naomhral_why_contract_spec : {M : Type 1} → statement M
 naomhral_why_contract_spec =
