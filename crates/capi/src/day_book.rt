@@ -10,16 +10,14 @@ use hour::Summary;
 use refusals::Refusal;
 
 // An empty book.
-#[unsafe(no_mangle)]
-pub extern "C" fn naomhral_book_empty(book: &mut [u64]) -> u32
+pub fn naomhral_book_empty(book: &mut [u64]) -> u32
     ensures { EmptiedTold book.old result book.new }
 {
     number_of(book_cells::empty(book))
 }
 
 // Enters an hour, replacing one held.
-#[unsafe(no_mangle)]
-pub extern "C" fn naomhral_book_enter(
+pub fn naomhral_book_enter(
     book: &mut [u64],
     hour: u32,
     demand: u32,
@@ -34,8 +32,7 @@ pub extern "C" fn naomhral_book_enter(
 }
 
 // Removes an hour.
-#[unsafe(no_mangle)]
-pub extern "C" fn naomhral_book_remove(book: &mut [u64], hour: u32) -> u32
+pub fn naomhral_book_remove(book: &mut [u64], hour: u32) -> u32
     ensures { CellsTold (cells_verdict book.old hour (slot_verdict hour))
         (with_place_cells book.old hour blank) book.old result book.new }
 {
@@ -44,13 +41,7 @@ pub extern "C" fn naomhral_book_remove(book: &mut [u64], hour: u32) -> u32
 
 // What is entered of an hour, from its sheet and from the summary and the figures that `naomhral_settle` left: number, place, demand,
 // losses, bought kWh and price go to the answer list, and the number is returned.
-#[unsafe(no_mangle)]
-pub extern "C" fn naomhral_entry(
-    sheet: &[u8],
-    summary: &[u32],
-    figures: &[u32],
-    answer: &mut [u32],
-) -> u32
+pub fn naomhral_entry(sheet: &[u8], summary: &[u32], figures: &[u32], answer: &mut [u32]) -> u32
     ensures { EntryTold sheet.now summary.now figures.now
         answer.old result answer.new }
 {

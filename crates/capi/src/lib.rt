@@ -43,16 +43,14 @@ fn number_of(v: Verdict) -> u32
 }
 
 // Shares an amount over weights, and returns the refusal's number, 0 where all is fine.
-#[unsafe(no_mangle)]
-pub extern "C" fn naomhral_share(amount: u32, weights: &[u32], out: &mut [u32]) -> u32
+pub fn naomhral_share(amount: u32, weights: &[u32], out: &mut [u32]) -> u32
     ensures { ShareTold amount weights.now out.old result out.new }
 {
     number_of(share::share(amount, weights, out))
 }
 
 // Reads a sheet: number, place and the four counts go to the answer list, and the number is returned.
-#[unsafe(no_mangle)]
-pub extern "C" fn naomhral_read(sheet: &[u8], answer: &mut [u32]) -> u32
+pub fn naomhral_read(sheet: &[u8], answer: &mut [u32]) -> u32
     ensures { ReadTold sheet.now answer.old result answer.new }
 {
     if answer.len() < 6 {
@@ -80,8 +78,7 @@ pub extern "C" fn naomhral_read(sheet: &[u8], answer: &mut [u32]) -> u32
 }
 
 // Writes a sheet: number, place and length go to the answer list, and the number is returned.
-#[unsafe(no_mangle)]
-pub extern "C" fn naomhral_write(
+pub fn naomhral_write(
     agents: &[u32],
     boundaries: &[u32],
     plants: &[u32],
@@ -111,8 +108,7 @@ pub extern "C" fn naomhral_write(
 
 // Settles a sheet into the four lent lists: number, place, price, demand and losses go to the summary list, and the number is
 // returned.
-#[unsafe(no_mangle)]
-pub extern "C" fn naomhral_settle(
+pub fn naomhral_settle(
     sheet: &[u8],
     figures: &mut [u32],
     money: &mut [i64],
@@ -135,8 +131,7 @@ pub extern "C" fn naomhral_settle(
 }
 
 // Checks an administrator's statement of a sheet's hour: number and place go to the answer list, and the number is returned.
-#[unsafe(no_mangle)]
-pub extern "C" fn naomhral_check(
+pub fn naomhral_check(
     sheet: &[u8],
     price: u32,
     figures: &[u32],
@@ -167,8 +162,7 @@ pub extern "C" fn naomhral_check(
 }
 
 // Puts a sheet's page into a lent buffer: number, place and length go to the answer list, and the number is returned.
-#[unsafe(no_mangle)]
-pub extern "C" fn naomhral_page(sheet: &[u8], out: &mut [u8], answer: &mut [u32]) -> u32
+pub fn naomhral_page(sheet: &[u8], out: &mut [u8], answer: &mut [u32]) -> u32
     ensures { PageTold sheet.now out.old answer.old result out.new answer.new }
 {
     if answer.len() < 3 {

@@ -47,8 +47,7 @@ fn tell_printed(p: Printed, answer: &mut [u32]) -> u32
 }
 
 // Puts the text of a sheet into a lent buffer: number, place and length go to the answer list, and the number is returned.
-#[unsafe(no_mangle)]
-pub extern "C" fn naomhral_sheet_text(sheet: &[u8], out: &mut [u8], answer: &mut [u32]) -> u32
+pub fn naomhral_sheet_text(sheet: &[u8], out: &mut [u8], answer: &mut [u32]) -> u32
     ensures { SheetTextTold sheet.now out.old answer.old result
         out.new answer.new }
 {
@@ -61,8 +60,7 @@ pub extern "C" fn naomhral_sheet_text(sheet: &[u8], out: &mut [u8], answer: &mut
 
 // Settles a sheet and puts the hour into a lent buffer as a statement's text: number, place and length go to the answer list, and the
 // number is returned.
-#[unsafe(no_mangle)]
-pub extern "C" fn naomhral_statement_text(sheet: &[u8], out: &mut [u8], answer: &mut [u32]) -> u32
+pub fn naomhral_statement_text(sheet: &[u8], out: &mut [u8], answer: &mut [u32]) -> u32
     ensures { StatementTextTold sheet.now out.old answer.old result
         out.new answer.new }
 {
@@ -100,8 +98,7 @@ fn tell_made(m: Made, answer: &mut [u32]) -> u32
 
 // Makes a sheet from its text: number, place, length and the line of what is wrong or refused go to the answer list, and the number is
 // returned.
-#[unsafe(no_mangle)]
-pub extern "C" fn naomhral_make_sheet(text: &[u8], out: &mut [u8], answer: &mut [u32]) -> u32
+pub fn naomhral_make_sheet(text: &[u8], out: &mut [u8], answer: &mut [u32]) -> u32
     ensures { MadeTold text.now out.old answer.old result out.new answer.new }
 {
     if answer.len() < 4 {
@@ -133,8 +130,7 @@ fn tell_statement(s: Statement, answer: &mut [u32]) -> u32
 
 // Reads a statement's text into the four lent lists, by how many agents, plants and contracts its sheet has: number, line and price go
 // to the answer list, and the number is returned.
-#[unsafe(no_mangle)]
-pub extern "C" fn naomhral_read_statement(
+pub fn naomhral_read_statement(
     text: &[u8],
     agents: u32,
     plants: u32,

@@ -40,8 +40,7 @@ fn tell_hours(all: [Summary; HOURS], out: &mut [u32])
 
 // Settles 24 sheets into the parts of the four lent lists: number, place, price, demand and losses of each hour go to the list of
 // summaries, and the number of what refused the whole call is returned, 0 where the hours were read.
-#[unsafe(no_mangle)]
-pub extern "C" fn naomhral_day(
+pub fn naomhral_day(
     sheets: &[u8],
     lengths: &[u32; HOURS],
     figures: &mut [u32],

@@ -35,8 +35,7 @@ fn second_value(reason: ContractReason) -> u32
 }
 
 // Why a plant is scheduled as it is: number, place, reason and its figures go to the answer list, and the number is returned.
-#[unsafe(no_mangle)]
-pub extern "C" fn naomhral_why_plant(sheet: &[u8], plant: u32, answer: &mut [u32]) -> u32
+pub fn naomhral_why_plant(sheet: &[u8], plant: u32, answer: &mut [u32]) -> u32
     ensures { WhyPlantTold sheet.now plant answer.old result answer.new }
 {
     if answer.len() < 8 {
@@ -69,8 +68,7 @@ pub extern "C" fn naomhral_why_plant(sheet: &[u8], plant: u32, answer: &mut [u32
 
 // Why a contract is assigned its amount: number, place, reason, its figures and the reason's two values go to the answer list, and the
 // number is returned.
-#[unsafe(no_mangle)]
-pub extern "C" fn naomhral_why_contract(sheet: &[u8], contract: u32, answer: &mut [u32]) -> u32
+pub fn naomhral_why_contract(sheet: &[u8], contract: u32, answer: &mut [u32]) -> u32
     ensures { WhyContractTold sheet.now contract answer.old result answer.new }
 {
     if answer.len() < 8 {
