@@ -1,6 +1,6 @@
 /* Settles one sheet: prints its page and a line of what is owed in all.
  *
- *     rt staticlib capi
+ *     tools/build capi
  *     cc -Wall -Wextra -Werror -Iinclude examples/hour.c target/staticlib/libcapi.a -o target/hour
  *     target/hour examples/worked-hour.sheet
  *

@@ -2,7 +2,7 @@
  *
  * Make the library in the repository's top folder, then link it:
  *
- *     rt staticlib capi
+ *     tools/build capi
  *     cc -Iinclude your.c target/staticlib/libcapi.a
  *
  * It is for x86-64 Linux. It keeps nothing between calls, takes no memory of its own but the stack, and may be called from several

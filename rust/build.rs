@@ -14,7 +14,7 @@ fn main() {
     println!("cargo::rerun-if-changed={}", archive.display());
     if !archive.is_file() {
         println!("cargo::error=the proved library is not there: {} does not exist", archive.display());
-        println!("cargo::error=make it first: run `rt staticlib capi` in the repository's top folder, then run cargo again");
+        println!("cargo::error=make it first: run `tools/build capi` in the repository's top folder, then run cargo again");
         return;
     }
     println!("cargo::rustc-env=NAOMHRAL_ARCHIVE={}", archive.display());
