@@ -14,7 +14,7 @@ use Rattle.sums.proofs.Picks.{pick_eq, pick_ne, pick_lt, pick_ge, pick_zero}
 use Rattle.sums.proofs.Keyed.{keyed_none, keyed_most, keyed_put}
 use Rattle.limits.specs.Limits.{most_agents}
 use Rattle.limits.specs.declared.Contract.{Contract}
-use Rattle.deals.specs.Deals.{Deals, count, kind, price, quantity}
+use Rattle.deals.specs.Deals.{Deals, count, kind, quantity}
 use Rattle.deals.specs.Deals.{demanded}
 use Rattle.deals.specs.Hour.{own_of}
 use Rattle.deals.proofs.Own.{own_rows}

@@ -30,16 +30,19 @@ demand_1_to_in_loop_a c = c.before.before.before
 abbrev in_loop_a_to_start : tie.In-loop-a invariant_loop decreases_loop → tie.Start invariant_loop decreases_loop
 in_loop_a_to_start c = c.before.before.before.before
 
-abbrev way_told_in_loop_a_1_to_in_loop_a : tie.After-way_told-in-loop-a-1 invariant_loop decreases_loop → tie.In-loop-a invariant_loop decreases_loop
+abbrev way_told_in_loop_a_1_to_in_loop_a : tie.After-way_told-in-loop-a-1 invariant_loop decreases_loop → tie.In-loop-a invariant_loop
+    decreases_loop
 way_told_in_loop_a_1_to_in_loop_a c = c.before.before.before.before
 
 abbrev of_small_arg_1_to_in_loop_a : tie.After-of_small-arg-1 invariant_loop decreases_loop → tie.In-loop-a invariant_loop decreases_loop
 of_small_arg_1_to_in_loop_a c = c.before.before.before.before.before
 
-abbrev slice_known_in_loop_a_2_1_unread_to_in_loop_a : tie.After-slice_known-in-loop-a-2-1-unread invariant_loop decreases_loop → tie.In-loop-a invariant_loop decreases_loop
+abbrev slice_known_in_loop_a_2_1_unread_to_in_loop_a : tie.After-slice_known-in-loop-a-2-1-unread invariant_loop decreases_loop →
+    tie.In-loop-a invariant_loop decreases_loop
 slice_known_in_loop_a_2_1_unread_to_in_loop_a c = of_small_arg_1_to_in_loop_a c.before
 
-abbrev of_small_delivered_to_in_loop_a : tie.After-of_small-delivered invariant_loop decreases_loop → tie.In-loop-a invariant_loop decreases_loop
+abbrev of_small_delivered_to_in_loop_a : tie.After-of_small-delivered invariant_loop decreases_loop → tie.In-loop-a invariant_loop
+    decreases_loop
 of_small_delivered_to_in_loop_a c = of_small_arg_1_to_in_loop_a c.before.before
 
 abbrev of_small_delivered_to_start : tie.After-of_small-delivered invariant_loop decreases_loop → tie.Start invariant_loop decreases_loop
@@ -93,8 +96,10 @@ loop_again c =
     let inv = c.loop-a.invariant in
     let a = c.loop-a.a in (
       omega arith,
-      filled_more 0 _ _ _ _ _ (demand_cell (of_small_delivered_to_in_loop_a c)) (omega (arith, demand_here (of_small_delivered_to_in_loop_a c))) inv.1,
-      filled_more 0 _ _ _ _ _ (own_cell (of_small_delivered_to_in_loop_a c)) (omega (arith, demand_here (of_small_delivered_to_in_loop_a c), delivered c)) inv.2,
+      filled_more 0 _ _ _ _ _ (demand_cell (of_small_delivered_to_in_loop_a c))
+          (omega (arith, demand_here (of_small_delivered_to_in_loop_a c))) inv.1,
+      filled_more 0 _ _ _ _ _ (own_cell (of_small_delivered_to_in_loop_a c))
+          (omega (arith, demand_here (of_small_delivered_to_in_loop_a c), delivered c)) inv.2,
       omega (arith, inv.3, demand_here (of_small_delivered_to_in_loop_a c), sum_step a (demands (of_small_delivered_to_start c))),
       omega (arith, inv.4, delivered c, sum_step a (delivers (of_small_delivered_to_start c))),
     )

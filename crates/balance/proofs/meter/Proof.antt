@@ -31,10 +31,12 @@ abbrev decreases_loop : tie.decreases-loop-j
 decreases_loop s imports₀ exports₀ section n j₀ imports exports j = n - j
 
 -- ways back: X_to_Y leads from the place X of the code to the earlier place Y
-abbrev add_reading_arg_in_loop_j_1_to_boundary_of_b : tie.After-add_reading-arg-in-loop-j-1 invariant_loop decreases_loop → tie.After-boundary_of-b invariant_loop decreases_loop
+abbrev add_reading_arg_in_loop_j_1_to_boundary_of_b : tie.After-add_reading-arg-in-loop-j-1 invariant_loop decreases_loop →
+    tie.After-boundary_of-b invariant_loop decreases_loop
 add_reading_arg_in_loop_j_1_to_boundary_of_b c = c.before.before.before.before.before.before
 
-abbrev slice_known_in_loop_j_2_1_to_boundary_of_b : tie.After-slice_known-in-loop-j-2-1 invariant_loop decreases_loop → tie.After-boundary_of-b invariant_loop decreases_loop
+abbrev slice_known_in_loop_j_2_1_to_boundary_of_b : tie.After-slice_known-in-loop-j-2-1 invariant_loop decreases_loop →
+    tie.After-boundary_of-b invariant_loop decreases_loop
 slice_known_in_loop_j_2_1_to_boundary_of_b c = c.before.before.before.before.before.before.before.before.before
 
 -- the row that was read
@@ -76,7 +78,8 @@ add_reading_requires c κs =
     let g = good c.before.before in
     let most = taken_most _ _ c.requires.0 _ c.section_of-section.ensures c.loop-j.j
     c.boundary_of-b.result.agent (omega arith) in
-    let room = cell c.before.before c.loop-j.imports _ c.loop-j.invariant.1 (c.loop-j.invariant.3 c.boundary_of-b.result.agent g.there) most in
+    let room = cell c.before.before c.loop-j.imports _ c.loop-j.invariant.1 (c.loop-j.invariant.3 c.boundary_of-b.result.agent g.there)
+    most in
     (room.0, room.1, g.import, g.factor)
 
 add_reading_requires_2 : tie.Need-add_reading-requires-in-loop-j invariant_loop decreases_loop
@@ -84,7 +87,8 @@ add_reading_requires_2 c κs =
     let g = good (add_reading_arg_in_loop_j_1_to_boundary_of_b c) in
     let most = given_most _ _ c.requires.0 _ c.section_of-section.ensures c.loop-j.j
     c.boundary_of-b.result.agent (omega arith) in
-    let room = cell (add_reading_arg_in_loop_j_1_to_boundary_of_b c) c.loop-j.exports _ c.loop-j.invariant.2 (c.loop-j.invariant.4 c.boundary_of-b.result.agent g.there) most in
+    let room = cell (add_reading_arg_in_loop_j_1_to_boundary_of_b c) c.loop-j.exports _ c.loop-j.invariant.2
+    (c.loop-j.invariant.4 c.boundary_of-b.result.agent g.there) most in
     (room.0, room.1, g.export, g.factor)
 
 add_j : tie.Need-overflow_add-j invariant_loop decreases_loop

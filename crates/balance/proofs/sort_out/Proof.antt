@@ -58,22 +58,26 @@ decreases_loop s imports exports kinds₀ taken₀ given₀ used₀ section n an
 abbrev agent_of_kind_to_at_loop_a : tie.After-agent_of-kind invariant_loop decreases_loop → tie.At-loop-a invariant_loop decreases_loop
 agent_of_kind_to_at_loop_a c = c.before.before.before
 
-abbrev struct_known_in_loop_a_2_1_to_whole_of_w : tie.After-struct_known-in-loop-a-2-1 invariant_loop decreases_loop → tie.After-whole_of-w invariant_loop decreases_loop
+abbrev struct_known_in_loop_a_2_1_to_whole_of_w : tie.After-struct_known-in-loop-a-2-1 invariant_loop decreases_loop →
+    tie.After-whole_of-w invariant_loop decreases_loop
 struct_known_in_loop_a_2_1_to_whole_of_w c = c.before.before.before
 
 abbrev way_told_1_to_in_loop_a : tie.After-way_told-1 invariant_loop decreases_loop → tie.In-loop-a invariant_loop decreases_loop
 way_told_1_to_in_loop_a c = c.before.before.before
 
-abbrev struct_known_in_loop_a_3_1_to_whole_of_w : tie.After-struct_known-in-loop-a-3-1 invariant_loop decreases_loop → tie.After-whole_of-w invariant_loop decreases_loop
+abbrev struct_known_in_loop_a_3_1_to_whole_of_w : tie.After-struct_known-in-loop-a-3-1 invariant_loop decreases_loop →
+    tie.After-whole_of-w invariant_loop decreases_loop
 struct_known_in_loop_a_3_1_to_whole_of_w c = c.before.before.before.before
 
 abbrev whole_of_arg_1_to_in_loop_a : tie.After-whole_of-arg-1 invariant_loop decreases_loop → tie.In-loop-a invariant_loop decreases_loop
 whole_of_arg_1_to_in_loop_a c = c.before.before.before.before
 
-abbrev way_told_in_loop_a_1_to_in_loop_a : tie.After-way_told-in-loop-a-1 invariant_loop decreases_loop → tie.In-loop-a invariant_loop decreases_loop
+abbrev way_told_in_loop_a_1_to_in_loop_a : tie.After-way_told-in-loop-a-1 invariant_loop decreases_loop → tie.In-loop-a invariant_loop
+    decreases_loop
 way_told_in_loop_a_1_to_in_loop_a c = c.before.before.before.before.before
 
-abbrev whole_of_w_to_agent_of_kind : tie.After-whole_of-w invariant_loop decreases_loop → tie.After-agent_of-kind invariant_loop decreases_loop
+abbrev whole_of_w_to_agent_of_kind : tie.After-whole_of-w invariant_loop decreases_loop → tie.After-agent_of-kind invariant_loop
+    decreases_loop
 whole_of_w_to_agent_of_kind c = c.before.before.before.before.before
 
 abbrev at_loop_a_to_start : tie.At-loop-a invariant_loop decreases_loop → tie.Start invariant_loop decreases_loop
@@ -94,22 +98,28 @@ whole_of_w_to_at_loop_a c = c.before.before.before.before.before.before.before.b
 abbrev first_if_to_start : tie.After-first_if invariant_loop decreases_loop → tie.Start invariant_loop decreases_loop
 first_if_to_start c = loop_a_to_start c.before
 
-abbrev struct_known_in_loop_a_3_1_to_agent_of_kind : tie.After-struct_known-in-loop-a-3-1 invariant_loop decreases_loop → tie.After-agent_of-kind invariant_loop decreases_loop
+abbrev struct_known_in_loop_a_3_1_to_agent_of_kind : tie.After-struct_known-in-loop-a-3-1 invariant_loop decreases_loop →
+    tie.After-agent_of-kind invariant_loop decreases_loop
 struct_known_in_loop_a_3_1_to_agent_of_kind c = whole_of_w_to_agent_of_kind c.before.before.before.before
 
-abbrev struct_known_in_loop_a_1_to_at_loop_a : tie.After-struct_known-in-loop-a-1 invariant_loop decreases_loop → tie.At-loop-a invariant_loop decreases_loop
+abbrev struct_known_in_loop_a_1_to_at_loop_a : tie.After-struct_known-in-loop-a-1 invariant_loop decreases_loop → tie.At-loop-a
+    invariant_loop decreases_loop
 struct_known_in_loop_a_1_to_at_loop_a c = whole_of_w_to_at_loop_a c.before.before
 
-abbrev struct_known_in_loop_a_2_1_to_at_loop_a : tie.After-struct_known-in-loop-a-2-1 invariant_loop decreases_loop → tie.At-loop-a invariant_loop decreases_loop
+abbrev struct_known_in_loop_a_2_1_to_at_loop_a : tie.After-struct_known-in-loop-a-2-1 invariant_loop decreases_loop → tie.At-loop-a
+    invariant_loop decreases_loop
 struct_known_in_loop_a_2_1_to_at_loop_a c = whole_of_w_to_at_loop_a c.before.before.before
 
-abbrev struct_known_in_loop_a_3_1_to_in_loop_a : tie.After-struct_known-in-loop-a-3-1 invariant_loop decreases_loop → tie.In-loop-a invariant_loop decreases_loop
+abbrev struct_known_in_loop_a_3_1_to_in_loop_a : tie.After-struct_known-in-loop-a-3-1 invariant_loop decreases_loop → tie.In-loop-a
+    invariant_loop decreases_loop
 struct_known_in_loop_a_3_1_to_in_loop_a c = whole_of_w_to_in_loop_a c.before.before.before.before
 
-abbrev struct_known_in_loop_a_3_1_to_at_loop_a : tie.After-struct_known-in-loop-a-3-1 invariant_loop decreases_loop → tie.At-loop-a invariant_loop decreases_loop
+abbrev struct_known_in_loop_a_3_1_to_at_loop_a : tie.After-struct_known-in-loop-a-3-1 invariant_loop decreases_loop → tie.At-loop-a
+    invariant_loop decreases_loop
 struct_known_in_loop_a_3_1_to_at_loop_a c = struct_known_in_loop_a_2_1_to_at_loop_a c.before
 
-abbrev whole_of_arg_in_loop_a_1_to_start : tie.After-whole_of-arg-in-loop-a-1 invariant_loop decreases_loop → tie.Start invariant_loop decreases_loop
+abbrev whole_of_arg_in_loop_a_1_to_start : tie.After-whole_of-arg-in-loop-a-1 invariant_loop decreases_loop → tie.Start invariant_loop
+    decreases_loop
 whole_of_arg_in_loop_a_1_to_start c = in_loop_a_to_start c.before.before.before.before.before.before
 
 abbrev sheet : tie.Start invariant_loop decreases_loop → Sheet
@@ -232,8 +242,18 @@ agent_lt c = omega (arith, few (in_loop_a_to_start c))
 whole_of_requires : tie.Need-whole_of-w-requires invariant_loop decreases_loop
 whole_of_requires c κs =
     let a = c.loop-a.a in (
-      omega (arith, took (whole_of_arg_in_loop_a_1_to_start c) a (omega arith), imported_tenths (sheet (whole_of_arg_in_loop_a_1_to_start c)) (ok (whole_of_arg_in_loop_a_1_to_start c)) a),
-      omega (arith, gave (whole_of_arg_in_loop_a_1_to_start c) a (omega arith), exported_tenths (sheet (whole_of_arg_in_loop_a_1_to_start c)) (ok (whole_of_arg_in_loop_a_1_to_start c)) a),
+      omega (
+        arith,
+        took (whole_of_arg_in_loop_a_1_to_start c) a (omega arith),
+        imported_tenths
+            (sheet (whole_of_arg_in_loop_a_1_to_start c)) (ok (whole_of_arg_in_loop_a_1_to_start c)) a,
+      ),
+      omega (
+        arith,
+        gave (whole_of_arg_in_loop_a_1_to_start c) a (omega arith),
+        exported_tenths
+            (sheet (whole_of_arg_in_loop_a_1_to_start c)) (ok (whole_of_arg_in_loop_a_1_to_start c)) a,
+      ),
     )
 
 loop_again : tie.Need-loop-a-preserved invariant_loop decreases_loop

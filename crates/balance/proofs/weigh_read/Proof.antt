@@ -154,7 +154,8 @@ shared c =
     let long : length c.args.commercial.now ≡ most_agents = omega (arith, c.read_columns-m.ensures.used.long) in
     let room : c.args.c.agents ≤ length c.args.commercial.now = omega (arith, few (share_out_to_start c)) in
     shares_are _ _ (count (share_out_to_start c)) _ _ _ _ _ (lost (share_out_to_read_columns_m c))
-    (weights_are _ _ (count (share_out_to_start c)) _ _ room c.read_columns-m.ensures.used) (few (share_out_to_start c)) cells c.share_out.ensures
+    (weights_are _ _ (count (share_out_to_start c)) _ _ room c.read_columns-m.ensures.used) (few (share_out_to_start c)) cells
+    c.share_out.ensures
 
 -- ---- commercial demand, what small generators deliver, and their sums
 abbrev uses : tie.After-share_out → List ℕ
@@ -197,7 +198,12 @@ small c = sum_eq _ _ _ (injects c)
 within : (c : tie.After-share_out)
     → sum c.args.c.agents (of_small (kinds c) (gives c)) ≤ hour_demand (sheet (share_out_to_start c))
 within c =
-    omega (arith, small c, small_is (sheet (share_out_to_start c)) _ (count (share_out_to_start c)) (ok (share_out_to_start c)), small_within _ (ok (share_out_to_start c)) (weighed (share_out_to_in_fine c)))
+    omega (
+      arith,
+      small c,
+      small_is (sheet (share_out_to_start c)) _ (count (share_out_to_start c)) (ok (share_out_to_start c)),
+      small_within _ (ok (share_out_to_start c)) (weighed (share_out_to_in_fine c)),
+    )
 
 most : (c : tie.After-share_out) → hour_demand (sheet (share_out_to_start c)) ≤ 4294967295
 most c = omega (arith, demand_most _ (ok (share_out_to_start c)) (weighed (share_out_to_in_fine c)))
@@ -233,11 +239,19 @@ add_demand c =
 
 sub_target : tie.Need-overflow_sub-result
 sub_target c =
-    omega (arith, c.add_shares-d.ensures.all, c.add_shares-d.ensures.small, all (struct_known_5_1_to_share_out c), within (struct_known_5_1_to_share_out c))
+    omega (
+      arith,
+      c.add_shares-d.ensures.all,
+      c.add_shares-d.ensures.small,
+      all (struct_known_5_1_to_share_out c),
+      within
+          (struct_known_5_1_to_share_out c),
+    )
 
 returns_2 : tie.Need-returns
 returns_2 c =
-    let every : (k : ℕ) → k ≡ cells (balance_verdict (sheet (struct_known_5_1_to_start c))) k = λ k. rw (fine (struct_known_5_1_to_in_fine c)) in
+    let every : (k : ℕ) → k ≡ cells (balance_verdict (sheet (struct_known_5_1_to_start c))) k = λ k. rw
+    (fine (struct_known_5_1_to_in_fine c)) in
     let n = sym (count (struct_known_5_1_to_start c)) in
     let r = c.read_columns-m.ensures in
     let added = c.add_shares-d.ensures in
@@ -246,7 +260,8 @@ returns_2 c =
       answer = verdict (struct_known_5_1_to_judge_verdict c);
       losses = lost (struct_known_5_1_to_read_columns_m c) ∙ every _;
       demand = demand ∙ every _;
-      target = target_is _ _ (count (struct_known_5_1_to_start c)) _ _ (ok (struct_known_5_1_to_start c)) demand (added.small ∙ small (struct_known_5_1_to_share_out c)) ∙ every _;
+      target = target_is _ _ (count (struct_known_5_1_to_start c)) _ _ (ok (struct_known_5_1_to_start c)) demand
+          (added.small ∙ small (struct_known_5_1_to_share_out c)) ∙ every _;
       columns =
           λ e. record {
             kinds = filled_count 0 _ _ _ _ _ n r.kinds;
@@ -256,7 +271,8 @@ returns_2 c =
                 (filled_by 0 _ _ _ _ _ (demands (struct_known_5_1_to_share_out c)) (filled_then 0 _ _ _ _ _ _ r.used added.commercial));
             own =
                 filled_count 0 _ _ _ _ _ n
-                (filled_by 0 _ _ _ _ _ (λ a l. ap₂ ◌+◌ (demands (struct_known_5_1_to_share_out c) a l) (injects (struct_known_5_1_to_share_out c) a l))
+                (filled_by 0 _ _ _ _ _ (λ a l. ap₂ ◌+◌ (demands (struct_known_5_1_to_share_out c) a l)
+                (injects (struct_known_5_1_to_share_out c) a l))
                 (filled_then 0 _ _ _ _ _ _ r.given added.own));
             imports = filled_count 0 _ _ _ _ _ n r.taken;
           };

@@ -55,7 +55,8 @@ few c = (accepted_few _ _ c.requires).agents
 returns : tie.Need-returns-in_default
 returns c =
     c.in_default.is
-    ∙ sym (turned (sheet (in_default_to_start c)) c.args.price (lists (in_default_to_start c)) _ (sym c.admit-w.ensures.answer ∙ c.in_default.is))
+    ∙ sym (turned (sheet (in_default_to_start c)) c.args.price (lists (in_default_to_start c)) _ (sym c.admit-w.ensures.answer ∙
+    c.in_default.is))
 
 -- ---- an hour that nothing turns away
 fine : (c : tie.In-Fine) → hour_verdict (sheet (in_fine_to_start c)) (lists (in_fine_to_start c)) ≡ Verdict.Fine
@@ -77,7 +78,8 @@ points_requires c κs =
       c.requires,
       (
         fine_room _ _ (fine (injected_3_1_to_in_fine c)),
-        weighs (sheet (injected_3_1_to_start c)) _ (agents_long _ _) _ (columns (injected_3_1_to_admit_w c)) _ (w.columns (fine (injected_3_1_to_in_fine c))) (rw (fine (injected_3_1_to_in_fine c)) at w.losses) _ _
+        weighs (sheet (injected_3_1_to_start c)) _ (agents_long _ _) _ (columns (injected_3_1_to_admit_w c)) _
+            (w.columns (fine (injected_3_1_to_in_fine c))) (rw (fine (injected_3_1_to_in_fine c)) at w.losses) _ _
             c.differences.ensures
             c.differences-2.ensures,
       ),

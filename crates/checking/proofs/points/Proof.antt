@@ -16,7 +16,6 @@ use Rattle.hour.specs.Sound.{Sound}
 use Rattle.hour.specs.Answer.{Lent, lent}
 use Rattle.checking.specs.Passes.{room}
 use mathlib.Core.Bool.{true}
-use borrow.Author.Tests.{not-true, not-false}
 use Rattle.statement.specs.Tests.{shares_good}
 use Rattle.checking.proofs.Stating.{used_fits, shares_are, demand_fits, demands_are, points_on, points_21}
 use Rattle.checking.proofs.points.Statement.{statement}

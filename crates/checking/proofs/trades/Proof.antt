@@ -187,7 +187,8 @@ target : (c : tie.After-less_wide-target)
     (demand_in (sheet (less_wide_target_to_start c)) (lists (less_wide_target_to_start c)))
 target c =
     c.less_wide-target.ensures
-    ∙ target_is (sheet (less_wide_target_to_start c)) (ok (less_wide_target_to_start c)) (lists (less_wide_target_to_start c)) _ _ _ _ c.requires.1.1 _ _ _
+    ∙ target_is (sheet (less_wide_target_to_start c)) (ok (less_wide_target_to_start c)) (lists (less_wide_target_to_start c)) _ _ _ _
+    c.requires.1.1 _ _ _
     (c.total-retailers.ensures ∙ ap (λ (n : ℕ). sum n (at c.args.demands)) (sym (count (less_wide_target_to_start c))))
     (c.total-generators.ensures ∙ ap (λ (n : ℕ). sum n (at c.args.imports.now)) (sym (count (less_wide_target_to_start c))))
     (c.total-small.ensures ∙ ap (λ (n : ℕ). sum n (at c.args.injected.now)) (sym (count (less_wide_target_to_start c))))
@@ -281,7 +282,8 @@ returns_2 : tie.Need-returns-then-price-v
 returns_2 c =
     c.refuse-then-price-v.ensures ∙ sym (trades_23 (sheet (refuse_then_price_v_to_start c)) (ok (refuse_then_price_v_to_start c))
     (lists (refuse_then_price_v_to_start c)) _ _ _ _ c.requires.1.1 _ (passed_22 (refuse_then_price_v_to_else_not_v c))
-    (sym (price_are (sheet (refuse_then_price_v_to_start c)) (ok (refuse_then_price_v_to_start c)) (lists (refuse_then_price_v_to_start c)) _ _ _ _
+    (sym (price_are (sheet (refuse_then_price_v_to_start c)) (ok (refuse_then_price_v_to_start c))
+    (lists (refuse_then_price_v_to_start c)) _ _ _ _
     c.requires.1.1 _ _ _ _ (target (refuse_then_price_v_to_less_wide_target c))
     (filled_count 0 _ _ _ _ _ (sym (count (refuse_then_price_v_to_start c))) c.together.ensures)
     c.judge-v.ensures _) ∙ ne_eqb _ _ c.if-price-v.true))

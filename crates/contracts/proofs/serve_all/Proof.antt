@@ -26,16 +26,19 @@ abbrev decreases_loop : tie.decreases-loop-b
 decreases_loop section demands decided ends keys₀ out₀ begin₀ b₀ keys out begin b = length demands - b
 
 -- ways back: X_to_Y leads from the place X of the code to the earlier place Y
-abbrev serve_side_arg_in_loop_b_1_to_in_loop_b : tie.After-serve_side-arg-in-loop-b-1 invariant_loop decreases_loop → tie.In-loop-b invariant_loop decreases_loop
+abbrev serve_side_arg_in_loop_b_1_to_in_loop_b : tie.After-serve_side-arg-in-loop-b-1 invariant_loop decreases_loop → tie.In-loop-b
+    invariant_loop decreases_loop
 serve_side_arg_in_loop_b_1_to_in_loop_b c = c.before.before.before
 
 abbrev serve_side_to_in_loop_b : tie.After-serve_side invariant_loop decreases_loop → tie.In-loop-b invariant_loop decreases_loop
 serve_side_to_in_loop_b c = c.before.before.before.before
 
-abbrev slice_known_in_loop_b_2_1_to_serve_side : tie.After-slice_known-in-loop-b-2-1 invariant_loop decreases_loop → tie.After-serve_side invariant_loop decreases_loop
+abbrev slice_known_in_loop_b_2_1_to_serve_side : tie.After-slice_known-in-loop-b-2-1 invariant_loop decreases_loop →
+    tie.After-serve_side invariant_loop decreases_loop
 slice_known_in_loop_b_2_1_to_serve_side c = c.before.before.before.before
 
-abbrev slice_known_in_loop_b_2_1_to_in_loop_b : tie.After-slice_known-in-loop-b-2-1 invariant_loop decreases_loop → tie.In-loop-b invariant_loop decreases_loop
+abbrev slice_known_in_loop_b_2_1_to_in_loop_b : tie.After-slice_known-in-loop-b-2-1 invariant_loop decreases_loop → tie.In-loop-b
+    invariant_loop decreases_loop
 slice_known_in_loop_b_2_1_to_in_loop_b c = serve_side_to_in_loop_b c.before.before.before.before
 
 -- where the buyer's keys begin and end
@@ -77,9 +80,19 @@ serve_side_requires c κs =
       (ready, omega (arith, c.requires.0.1, c.loop-b.invariant.4.long), omega arith),
       (
         cuts,
-        (λ h. some_cut _ _ ready _ cuts _ (omega arith) (omega (arith, size, ends_at (serve_side_arg_in_loop_b_1_to_in_loop_b c), c.loop-b.invariant.1))),
+        (λ h. some_cut _ _ ready _ cuts _ (omega arith) (omega (
+          arith,
+          size,
+          ends_at (serve_side_arg_in_loop_b_1_to_in_loop_b c),
+          c.loop-b.invariant.1,
+        ))),
         (λ h. slice_front _ _ ready _ cuts _ (omega arith)
-            (some_cut _ _ ready _ cuts _ (omega arith) (omega (arith, size, ends_at (serve_side_arg_in_loop_b_1_to_in_loop_b c), c.loop-b.invariant.1))) _ _ c.requires.1.3
+            (some_cut _ _ ready _ cuts _ (omega arith) (omega (
+              arith,
+              size,
+              ends_at (serve_side_arg_in_loop_b_1_to_in_loop_b c),
+              c.loop-b.invariant.1,
+            ))) _ _ c.requires.1.3
             (omega (arith, size, ends_at (serve_side_arg_in_loop_b_1_to_in_loop_b c), c.loop-b.invariant.1))
             (λ u k. part_at c.loop-b.keys c.loop-b.begin (at c.args.ends.now c.loop-b.b) u
             (omega (arith, size))
@@ -100,13 +113,21 @@ cut_here c (yes h) =
     let cuts = c.requires.1.0 in
     let size =
     part_long c.loop-b.keys c.loop-b.begin (at c.args.ends.now c.loop-b.b) (end_le (serve_side_to_in_loop_b c)) in
-    let bit = some_cut _ _ ready _ cuts c.loop-b.b (omega arith) (omega (arith, ends_at (serve_side_to_in_loop_b c), c.loop-b.invariant.1)) in
+    let bit = some_cut _ _ ready _ cuts c.loop-b.b (omega arith) (omega (
+      arith,
+      ends_at (serve_side_to_in_loop_b c),
+      c.loop-b.invariant.1,
+    )) in
     cut_more _ _ ready _ cuts _ (omega arith) bit _ _ _ c.loop-b.invariant.4 (c.serve_side.ensures.0 (omega (arith, size)))
 cut_here c (no h) =
     let size =
     part_long c.loop-b.keys c.loop-b.begin (at c.args.ends.now c.loop-b.b) (end_le (serve_side_to_in_loop_b c)) in
     rw (c.serve_side.ensures.1 (omega (arith, size)))
-    (cut_none_more _ _ c.requires.0.0 _ c.requires.1.0 _ (omega arith) (omega (arith, ends_at (serve_side_to_in_loop_b c), c.loop-b.invariant.1)) _ _
+    (cut_none_more _ _ c.requires.0.0 _ c.requires.1.0 _ (omega arith) (omega (
+      arith,
+      ends_at (serve_side_to_in_loop_b c),
+      c.loop-b.invariant.1,
+    )) _ _
     c.loop-b.invariant.4)
 
 loop_again : tie.Need-loop-b-preserved invariant_loop decreases_loop
@@ -117,8 +138,10 @@ loop_again c =
     let same : length ys ≡ at c.args.ends.now c.loop-b.b - c.loop-b.begin = search rules ∙ size in (
       omega arith,
       ends_at (slice_known_in_loop_b_2_1_to_in_loop_b c),
-      put_long c.loop-b.keys ys c.loop-b.begin _ (begin_le (slice_known_in_loop_b_2_1_to_in_loop_b c)) (end_le (slice_known_in_loop_b_2_1_to_in_loop_b c)) same ∙ c.loop-b.invariant.2,
-      (λ u h. put_behind c.loop-b.keys ys c.loop-b.begin _ (begin_le (slice_known_in_loop_b_2_1_to_in_loop_b c)) (end_le (slice_known_in_loop_b_2_1_to_in_loop_b c)) same u h
+      put_long c.loop-b.keys ys c.loop-b.begin _ (begin_le (slice_known_in_loop_b_2_1_to_in_loop_b c))
+          (end_le (slice_known_in_loop_b_2_1_to_in_loop_b c)) same ∙ c.loop-b.invariant.2,
+      (λ u h. put_behind c.loop-b.keys ys c.loop-b.begin _ (begin_le (slice_known_in_loop_b_2_1_to_in_loop_b c))
+          (end_le (slice_known_in_loop_b_2_1_to_in_loop_b c)) same u h
           ∙ c.loop-b.invariant.3 u (omega (arith, begin_le (slice_known_in_loop_b_2_1_to_in_loop_b c)))),
       cut_here (slice_known_in_loop_b_2_1_to_serve_side c) (dec_lt _ _),
     )

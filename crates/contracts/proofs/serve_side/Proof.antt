@@ -48,11 +48,13 @@ front c = c.requires.1.2 (some c)
 
 serve_firm_requires : tie.Need-serve_firm-requires
 serve_firm_requires c κs =
-    side_rowed _ _ c.requires.0.0 _ _ (bit (serve_firm_arg_1_to_else_keys_eq0 c)) _ _ (front (serve_firm_arg_1_to_else_keys_eq0 c)) c.sort.ensures _ c.requires.0.1
+    side_rowed _ _ c.requires.0.0 _ _ (bit (serve_firm_arg_1_to_else_keys_eq0 c)) _ _ (front (serve_firm_arg_1_to_else_keys_eq0 c))
+    c.sort.ensures _ c.requires.0.1
 
 returns_2 : tie.Need-returns-then-decided-b-eq0
 returns_2 c = (
-  (λ h. firm_cut _ _ c.requires.0.0 _ _ (bit (slice_known_then_decided_b_eq0_1_to_else_keys_eq0 c)) _ _ (front (slice_known_then_decided_b_eq0_1_to_else_keys_eq0 c)) c.sort.ensures c.if-decided-b-eq0.true _
+  (λ h. firm_cut _ _ c.requires.0.0 _ _ (bit (slice_known_then_decided_b_eq0_1_to_else_keys_eq0 c)) _ _
+      (front (slice_known_then_decided_b_eq0_1_to_else_keys_eq0 c)) c.sort.ensures c.if-decided-b-eq0.true _
       (begins_firm _ _ c.requires.0.0 _ c.requires.1.0 _ c.requires.0.2 c.if-decided-b-eq0.true) _ _
       c.serve_firm.ensures),
   (λ e. absurd (c.if-keys-eq0.false e)),
@@ -60,7 +62,8 @@ returns_2 c = (
 
 serve_asked_requires : tie.Need-serve_asked-requires
 serve_asked_requires c κs =
-    side_rising _ _ c.requires.0.0 _ _ (bit (serve_asked_arg_1_to_else_keys_eq0 c)) _ _ (front (serve_asked_arg_1_to_else_keys_eq0 c)) c.sort.ensures _ c.requires.0.1
+    side_rising _ _ c.requires.0.0 _ _ (bit (serve_asked_arg_1_to_else_keys_eq0 c)) _ _ (front (serve_asked_arg_1_to_else_keys_eq0 c))
+    c.sort.ensures _ c.requires.0.1
 
 -- the side is not the first, so it is the second
 one : (c : tie.Else-decided-b-eq0)
@@ -71,7 +74,8 @@ one c = omega (arith, bit (else_decided_b_eq0_to_else_keys_eq0 c), c.if-decided-
 
 returns_3 : tie.Need-returns
 returns_3 c = (
-  (λ h. asked_cut _ _ c.requires.0.0 _ _ (bit (slice_known_4_1_to_else_keys_eq0 c)) _ _ (front (slice_known_4_1_to_else_keys_eq0 c)) c.sort.ensures (one (slice_known_4_1_to_else_decided_b_eq0 c)) _
+  (λ h. asked_cut _ _ c.requires.0.0 _ _ (bit (slice_known_4_1_to_else_keys_eq0 c)) _ _ (front (slice_known_4_1_to_else_keys_eq0 c))
+      c.sort.ensures (one (slice_known_4_1_to_else_decided_b_eq0 c)) _
       (begins_asked _ _ c.requires.0.0 _ c.requires.1.0 _ c.requires.0.2 (one (slice_known_4_1_to_else_decided_b_eq0 c))) _ _
       c.serve_asked.ensures),
   (λ e. absurd (c.if-keys-eq0.false e)),

@@ -61,15 +61,25 @@ decide_requires c κs =
 
 spots_requires : tie.Need-spots-requires
 spots_requires c κs = (
-  ((ready (spots_arg_1_to_in_fine c)).agents, (cuts (spots_arg_1_to_decide_some c)).long, (counted (spots_arg_1_to_in_fine c)).long, c.requires.1),
-  (decided_most _ _ (ready (spots_arg_1_to_in_fine c)) _ (cuts (spots_arg_1_to_decide_some c)), spots_few _ _ (ready (spots_arg_1_to_in_fine c)) _ (cuts (spots_arg_1_to_decide_some c)) _ (counted (spots_arg_1_to_in_fine c))),
+  (
+    (ready (spots_arg_1_to_in_fine c)).agents,
+    (cuts (spots_arg_1_to_decide_some c)).long,
+    (counted (spots_arg_1_to_in_fine c)).long,
+    c.requires.1,
+  ),
+  (
+    decided_most _ _ (ready (spots_arg_1_to_in_fine c)) _ (cuts (spots_arg_1_to_decide_some c)),
+    spots_few _ _
+        (ready (spots_arg_1_to_in_fine c)) _ (cuts (spots_arg_1_to_decide_some c)) _ (counted (spots_arg_1_to_in_fine c)),
+  ),
 )
 
 returns_2 : tie.Need-returns-then-some
 returns_2 c =
     let spots = c.spots.ensures in
     planned_some _ _ _ _ _ spots.long _ _ c.judge-verdict.ensures.answer (cuts (slice_known_then_some_1_to_decide_some c))
-    c.if-some.true (spots_next _ _ (ready (slice_known_then_some_1_to_in_fine c)) _ (cuts (slice_known_then_some_1_to_decide_some c)) _ (counted (slice_known_then_some_1_to_in_fine c)) _ spots)
+    c.if-some.true (spots_next _ _ (ready (slice_known_then_some_1_to_in_fine c)) _ (cuts (slice_known_then_some_1_to_decide_some c)) _
+    (counted (slice_known_then_some_1_to_in_fine c)) _ spots)
 
 returns_3 : tie.Need-returns-else-some
 returns_3 c =

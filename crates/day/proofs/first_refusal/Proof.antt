@@ -1,5 +1,4 @@
 use borrow.Author.Rules.{rules}
-use borrow.Author.Tests.{not-true, not-false}
 use Rattle.day.proofs.first_refusal.Statement.{statement}
 use Rattle.day.proofs.first_refusal.Tie as tie
 

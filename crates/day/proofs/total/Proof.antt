@@ -2,7 +2,6 @@ use Prim.Native.Nat.{◌*◌, ◌-◌, ◌≤◌}
 use native.Mathlib.Omega.{arith}
 use mathlib.Core.Path.{◌≡◌, sym}
 use borrow.Author.Rules.{rules}
-use Rattle.sums.specs.Lists.{at}
 use Rattle.sums.proofs.Sums.{sum_none, sum_step}
 use Rattle.day.specs.Day.{hours, start_of}
 use Rattle.day.proofs.total.Statement.{statement}

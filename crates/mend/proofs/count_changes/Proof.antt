@@ -2,7 +2,6 @@ use Prim.Native.Nat.{◌≤◌, ◌+◌, ◌-◌}
 use native.Mathlib.Omega.{arith}
 use mathlib.Core.Path.{◌≡◌, sym}
 use lib.ListN.{length}
-use Rattle.sums.specs.Lists.{at}
 use Rattle.mend.specs.Mend.{count_to, changed}
 use Rattle.mend.proofs.Places.{count_none, count_few}
 use Rattle.mend.proofs.Changes.{changes_more}

@@ -39,7 +39,8 @@ few c = (accepted_few _ _ c.requires).agents
 returns : tie.Need-returns-then-s-ne0
 returns c =
     let v =
-    summary_refused (sheet_verdict (bytes (slice_known_then_s_ne0_1_to_start c))) (hour_of (bytes (slice_known_then_s_ne0_1_to_start c))) _ c.settle_lists-s.ensures.answered
+    summary_refused (sheet_verdict (bytes (slice_known_then_s_ne0_1_to_start c)))
+    (hour_of (bytes (slice_known_then_s_ne0_1_to_start c))) _ c.settle_lists-s.ensures.answered
     c.if-s-ne0.true in
     rw (refused_sheet (bytes (slice_known_then_s_ne0_1_to_start c)) _ v) c.refused_page.ensures
 

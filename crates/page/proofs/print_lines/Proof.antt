@@ -46,7 +46,8 @@ returns c =
     let l = c.write_lines.ensures in
     printed_columns a.s a.n a.kinds.now a.shares.now a.own.now a.imports.now a.held.now (few (slice_known_2_1_to_start c))
     (kinds_long (slice_known_2_1_to_front c)) _ _ _ _ _ _ c.front.ensures
-    (filled_front 0 _ _ _ _ (omega (arith, few (slice_known_2_1_to_start c))) l.0) (filled_front (pos 0) _ _ _ _ (few (slice_known_2_1_to_start c)) l.1) c.print.ensures
+    (filled_front 0 _ _ _ _ (omega (arith, few (slice_known_2_1_to_start c))) l.0) (filled_front (pos 0) _ _ _ _
+    (few (slice_known_2_1_to_start c)) l.1) c.print.ensures
 
 pub print_lines_spec : {M : Type 1} → statement M
 print_lines_spec =

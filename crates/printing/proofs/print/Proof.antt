@@ -6,10 +6,8 @@ use mathlib.Core.Bool.{true, ◌&&◌}
 use mathlib.Core.List.{List, [], ◌++◌}
 use native.Mathlib.Omega.{arith}
 use borrow.Author.Rules.{rules}
-use borrow.Author.Tests.{not-true, not-false}
 use lib.Dec.{leb}
 use lib.ListN.{length}
-use Rattle.sums.specs.Lists.{at}
 use Rattle.sums.proofs.Fill.{filled_none, filled_count}
 use Rattle.limits.specs.Limits.{most_agents}
 use Rattle.printing.specs.Text.{lines_to}

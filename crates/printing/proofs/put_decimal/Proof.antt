@@ -33,7 +33,8 @@ loop_again c = let p = laws.some_left c.loop-rest.left c.loop-rest.rest c.loop-r
       omega arith,
       length-set c.loop-rest.s (c.loop-rest.i - 1) (48 + c.loop-rest.rest % 10) ∙ c.loop-rest.invariant.3,
       rw (laws.lead c.loop-rest.s c.loop-rest.i (48 + c.loop-rest.rest % 10) z l)
-          (c.loop-rest.invariant.4 ∙ laws.spell_more c.loop-rest.left c.loop-rest.rest (drop c.loop-rest.i c.loop-rest.s) c.loop-rest-test.true p),
+          (c.loop-rest.invariant.4 ∙ laws.spell_more c.loop-rest.left c.loop-rest.rest (drop c.loop-rest.i c.loop-rest.s)
+          c.loop-rest-test.true p),
     )
 
 same_length : tie.Need-shape_of-s invariant_loop decreases_loop
@@ -45,7 +46,8 @@ returns c = let z : 0 < c.loop-rest.i = omega arith in
     record {
       text_is =
           laws.lead c.loop-rest.s c.loop-rest.i (48 + c.loop-rest.rest % 10) z l
-          ∙ sym (c.loop-rest.invariant.4 ∙ laws.spell_last c.loop-rest.left c.loop-rest.rest (drop c.loop-rest.i c.loop-rest.s) c.loop-rest-test.false);
+          ∙ sym (c.loop-rest.invariant.4 ∙ laws.spell_last c.loop-rest.left c.loop-rest.rest (drop c.loop-rest.i c.loop-rest.s)
+          c.loop-rest-test.false);
       low = omega arith;
       high = omega arith;
     }

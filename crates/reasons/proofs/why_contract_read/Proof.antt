@@ -32,7 +32,8 @@ judge_to_else_hour_ne0 c = c.before.before.before.before.before.before.before.be
 fine : (c : tie.Else-hour-ne0) → sheet_verdict c.args.bytes.now ≡ Verdict.Fine
 fine c =
     let bytes = c.args.bytes.now in
-    summary_fine (sheet_verdict bytes) (hour_of bytes) c.settle_hour-hour.result c.settle_hour-hour.ensures.answer (none_fine bytes) c.if-hour-ne0.false
+    summary_fine (sheet_verdict bytes) (hour_of bytes) c.settle_hour-hour.result c.settle_hour-hour.ensures.answer (none_fine bytes)
+    c.if-hour-ne0.false
 
 -- behind the second the contract is there
 there : (c : tie.Else-c-j) → c.args.contract < c.args.c.contracts
@@ -99,8 +100,10 @@ returns_3 c =
     let ok = fine (judge_to_else_hour_ne0 c) in
     contract_told_lem a.bytes.now a.c c.requires ok a.contract (there (judge_to_else_c_j c)) c.contract_of-k.result
     (row c.before.before) _ _
-    (amount_at_lem a.bytes.now a.c c.requires ok a.contract _ _ _ _ _ c.settle_hour-hour.result c.settle_hour-hour.ensures (there (judge_to_else_c_j c)))
-    (demand_at a.bytes.now a.c c.requires ok a.contract _ _ _ _ _ c.settle_hour-hour.result c.settle_hour-hour.ensures (there (judge_to_else_c_j c)) _
+    (amount_at_lem a.bytes.now a.c c.requires ok a.contract _ _ _ _ _ c.settle_hour-hour.result c.settle_hour-hour.ensures
+    (there (judge_to_else_c_j c)))
+    (demand_at a.bytes.now a.c c.requires ok a.contract _ _ _ _ _ c.settle_hour-hour.result c.settle_hour-hour.ensures
+    (there (judge_to_else_c_j c)) _
     (ap (λ (k : Contract). k.buyer) (row c.before.before)))
     c.judge.result c.judge.ensures
 

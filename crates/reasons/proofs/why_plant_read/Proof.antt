@@ -27,7 +27,8 @@ judge_plant_to_else_hour_ne0 c = c.before.before.before.before.before.before
 fine : (c : tie.Else-hour-ne0) → sheet_verdict c.args.bytes.now ≡ Verdict.Fine
 fine c =
     let bytes = c.args.bytes.now in
-    summary_fine (sheet_verdict bytes) (hour_of bytes) c.settle_hour-hour.result c.settle_hour-hour.ensures.answer (none_fine bytes) c.if-hour-ne0.false
+    summary_fine (sheet_verdict bytes) (hour_of bytes) c.settle_hour-hour.result c.settle_hour-hour.ensures.answer (none_fine bytes)
+    c.if-hour-ne0.false
 
 -- behind the second the plant is there
 there : (c : tie.Else-c-i) → c.args.plant < c.args.c.plants
@@ -71,7 +72,8 @@ returns_3 c =
     let ok = fine (judge_plant_to_else_hour_ne0 c) in
     let row = c.plant_of-p.ensures ∙ ap (λ (x : Words). plant_of x) c.row_at.ensures in
     plant_told_lem a.bytes.now a.c c.requires ok a.plant (there (judge_plant_to_else_c_i c)) c.plant_of-p.result row _ _
-    (schedule_at a.bytes.now a.c c.requires ok a.plant _ _ _ _ _ c.settle_hour-hour.result c.settle_hour-hour.ensures (there (judge_plant_to_else_c_i c)))
+    (schedule_at a.bytes.now a.c c.requires ok a.plant _ _ _ _ _ c.settle_hour-hour.result c.settle_hour-hour.ensures
+    (there (judge_plant_to_else_c_i c)))
     (price_told a.bytes.now a.c c.requires ok a.plant _ _ _ _ _ c.settle_hour-hour.result c.settle_hour-hour.ensures)
     c.judge_plant.result c.judge_plant.ensures
 

@@ -55,7 +55,8 @@ abbrev settle_columns_s_to_start : tie.After-settle_columns-s → tie.Start
 settle_columns_s_to_start c = settle_columns_arg_2_1_to_start c.before
 
 abbrev money_1_to_settle_columns_s : tie.After-money-1 → tie.After-settle_columns-s
-money_1_to_settle_columns_s c = else_s_ne0_to_settle_columns_s c.before.before.before.before.before.before.before.before.before.before.before
+money_1_to_settle_columns_s c = else_s_ne0_to_settle_columns_s
+    c.before.before.before.before.before.before.before.before.before.before.before
 
 abbrev else_s_ne0_to_start : tie.Else-s-ne0 → tie.Start
 else_s_ne0_to_start c = settle_columns_s_to_start c.before.before.before.before.before.before
@@ -64,7 +65,8 @@ abbrev then_s_ne0_to_start : tie.Then-s-ne0 → tie.Start
 then_s_ne0_to_start c = settle_columns_s_to_start c.before.before.before.before.before.before
 
 abbrev write_lines_arg_2_1_to_has_room_room : tie.After-write_lines-arg-2-1 → tie.After-has_room-room
-write_lines_arg_2_1_to_has_room_room c = settle_columns_arg_2_1_to_has_room_room c.before.before.before.before.before.before.before.before.before.before.before.before.before.before
+write_lines_arg_2_1_to_has_room_room c = settle_columns_arg_2_1_to_has_room_room
+    c.before.before.before.before.before.before.before.before.before.before.before.before.before.before
 
 abbrev write_lines_arg_2_1_to_start : tie.After-write_lines-arg-2-1 → tie.Start
 write_lines_arg_2_1_to_start c = else_s_ne0_to_start c.before.before.before.before.before.before.before
@@ -90,7 +92,8 @@ few c = (accepted_few _ _ c.requires).agents
 ok : (c : tie.Start) → Sound (sheet c)
 ok c = sound _ _ c.requires
 
-room : (c : tie.After-has_room-room) → c.has_room-room.result ≡ true → Roomy (sheet (has_room_room_to_start c)) (lists (has_room_room_to_start c))
+room : (c : tie.After-has_room-room) → c.has_room-room.result ≡ true → Roomy (sheet (has_room_room_to_start c))
+    (lists (has_room_room_to_start c))
 room c = room_there (bytes (has_room_room_to_start c)) c.args.c (lists (has_room_room_to_start c)) _ c.has_room-room.ensures
 
 settle_columns_requires : tie.Need-settle_columns-s-requires
@@ -100,7 +103,11 @@ settle_columns_requires c κs =
       c.requires,
       (
         refl,
-        λ r. (omega (arith, p, (room (settle_columns_arg_2_1_to_has_room_room c) r).schedule), omega (arith, k, (room (settle_columns_arg_2_1_to_has_room_room c) r).amounts)),
+        λ r. (
+          omega (arith, p, (room (settle_columns_arg_2_1_to_has_room_room c) r).schedule),
+          omega
+              (arith, k, (room (settle_columns_arg_2_1_to_has_room_room c) r).amounts),
+        ),
       ),
     )
 
@@ -108,7 +115,8 @@ settle_columns_requires c κs =
 abbrev judged : tie.After-settle_columns-s → Verdict
 judged c = admission_with (sheet (settle_columns_s_to_start c)) c.has_room-room.result
 
-verdict : (c : tie.After-settle_columns-s) → judged c ≡ hour_verdict (sheet (settle_columns_s_to_start c)) (lists (settle_columns_s_to_start c))
+verdict : (c : tie.After-settle_columns-s) → judged c ≡ hour_verdict (sheet (settle_columns_s_to_start c))
+    (lists (settle_columns_s_to_start c))
 verdict c = admission_is _ _ (lists (settle_columns_s_to_start c)) _ c.has_room-room.ensures
 
 -- ---- a refusal
@@ -150,15 +158,20 @@ abbrev imports : tie.After-settle_columns-s → List ℕ
 imports c = c.settle_columns-s.new.imports
 
 stand : (c : tie.Else-s-ne0)
-    → LineColumns (sheet (else_s_ne0_to_start c)) c.args.c.agents (kinds (else_s_ne0_to_settle_columns_s c)) (shares (else_s_ne0_to_settle_columns_s c)) (own (else_s_ne0_to_settle_columns_s c)) (imports (else_s_ne0_to_settle_columns_s c)) (held (else_s_ne0_to_settle_columns_s c))
+    → LineColumns (sheet (else_s_ne0_to_start c)) c.args.c.agents (kinds (else_s_ne0_to_settle_columns_s c))
+    (shares (else_s_ne0_to_settle_columns_s c)) (own (else_s_ne0_to_settle_columns_s c))
+    (imports (else_s_ne0_to_settle_columns_s c)) (held (else_s_ne0_to_settle_columns_s c))
 stand c = c.settle_columns-s.ensures.columns (fine c)
 
 fits : (c : tie.Else-s-ne0) (a : ℕ)
     → a < c.args.c.agents
-    → buys (at (kinds (else_s_ne0_to_settle_columns_s c)) a) (at (own (else_s_ne0_to_settle_columns_s c)) a) (at (imports (else_s_ne0_to_settle_columns_s c)) a) (at (held (else_s_ne0_to_settle_columns_s c)) a) ≤ 4294967295
+    → buys (at (kinds (else_s_ne0_to_settle_columns_s c)) a) (at (own (else_s_ne0_to_settle_columns_s c)) a)
+    (at (imports (else_s_ne0_to_settle_columns_s c)) a) (at (held (else_s_ne0_to_settle_columns_s c)) a) ≤ 4294967295
 fits c =
     let l = stand c in
-    lines_fit (sheet (else_s_ne0_to_start c)) _ (count (else_s_ne0_to_start c)) (kinds (else_s_ne0_to_settle_columns_s c)) (shares (else_s_ne0_to_settle_columns_s c)) (own (else_s_ne0_to_settle_columns_s c)) (imports (else_s_ne0_to_settle_columns_s c)) (held (else_s_ne0_to_settle_columns_s c)) l.kinds l.shares l.own l.imports
+    lines_fit (sheet (else_s_ne0_to_start c)) _ (count (else_s_ne0_to_start c)) (kinds (else_s_ne0_to_settle_columns_s c))
+    (shares (else_s_ne0_to_settle_columns_s c)) (own (else_s_ne0_to_settle_columns_s c))
+    (imports (else_s_ne0_to_settle_columns_s c)) (held (else_s_ne0_to_settle_columns_s c)) l.kinds l.shares l.own l.imports
     l.held (ok (else_s_ne0_to_start c)) (balanced _ (admits _ _ (fine c)).balance)
 
 write_lines_requires : tie.Need-write_lines-requires
@@ -180,10 +193,14 @@ returns_2 c =
     let l = stand (money_1_to_else_s_ne0 c) in
     let h = sheet (money_1_to_start c) in
     let f =
-    figures_are h _ (count (money_1_to_start c)) (kinds (money_1_to_settle_columns_s c)) (shares (money_1_to_settle_columns_s c)) (own (money_1_to_settle_columns_s c)) (imports (money_1_to_settle_columns_s c)) (held (money_1_to_settle_columns_s c)) l.kinds l.shares l.own l.imports
+    figures_are h _ (count (money_1_to_start c)) (kinds (money_1_to_settle_columns_s c)) (shares (money_1_to_settle_columns_s c))
+    (own (money_1_to_settle_columns_s c)) (imports (money_1_to_settle_columns_s c)) (held (money_1_to_settle_columns_s c)) l.kinds
+    l.shares l.own l.imports
     l.held in
     let m =
-    money_are h _ (count (money_1_to_start c)) (kinds (money_1_to_settle_columns_s c)) (shares (money_1_to_settle_columns_s c)) (own (money_1_to_settle_columns_s c)) (imports (money_1_to_settle_columns_s c)) (held (money_1_to_settle_columns_s c)) l.kinds l.shares l.own l.imports
+    money_are h _ (count (money_1_to_start c)) (kinds (money_1_to_settle_columns_s c)) (shares (money_1_to_settle_columns_s c))
+    (own (money_1_to_settle_columns_s c)) (imports (money_1_to_settle_columns_s c)) (held (money_1_to_settle_columns_s c)) l.kinds
+    l.shares l.own l.imports
     l.held in
     let w = c.write_lines.ensures in
     settled_read _ _ _ _ _ c.requires

@@ -21,7 +21,8 @@ abbrev decreases_loop : tie.decreases-loop-i
 decreases_loop s k agents section n i₀ i = n - i
 
 -- ways back: X_to_Y leads from the place X of the code to the earlier place Y
-abbrev in_default_to_part_of_section : tie.In_default invariant_loop decreases_loop → tie.After-part_of-section invariant_loop decreases_loop
+abbrev in_default_to_part_of_section : tie.In_default invariant_loop decreases_loop → tie.After-part_of-section invariant_loop
+    decreases_loop
 in_default_to_part_of_section c = c.before.before.before.before
 
 -- the sections that the code cut out say what the sheet says

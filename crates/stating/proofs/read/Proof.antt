@@ -3,7 +3,6 @@ use mathlib.Core.Path.{◌≡◌, sym, ◌∙◌}
 use mathlib.Core.Bool.{true}
 use mathlib.Core.List.{List}
 use borrow.Author.Rules.{rules}
-use borrow.Author.Tests.{not-true, not-false}
 use Rattle.hour.specs.Answer.{Lent, lent}
 use Rattle.stating.specs.Read.{lists_fit}
 use Rattle.stating.proofs.Reading.{counts_good_lem, not_fit, wrong_line, all_read}
@@ -31,12 +30,14 @@ judge_requires c κs = counts_good_lem c.args.c (lists c.before) (fitting c)
 
 returns_2 : tie.Need-returns-then-is_found
 returns_2 c =
-    wrong_line (typed c.before.before.before.before) c.args.c (lists c.before.before.before.before) c.judge-j.result.line c.judge-j.result.fault (fitting c.before.before.before)
+    wrong_line (typed c.before.before.before.before) c.args.c (lists c.before.before.before.before) c.judge-j.result.line
+    c.judge-j.result.fault (fitting c.before.before.before)
     c.judge-j.ensures.0 c.judge-j.ensures.1 (sym c.is_found.ensures ∙ c.if-is_found.true)
 
 returns_3 : tie.Need-returns
 returns_3 c =
-    all_read (typed c.before.before.before.before.before.before.before.before.before.before.before.before.before.before.before.before) c.args.c (lists c.before.before.before.before.before.before.before.before.before.before.before.before.before.before.before.before) _ c.fill.result c.judge-j.result.fault (fitting c.before.before.before.before.before.before.before.before.before.before.before.before.before.before.before)
+    all_read (typed c.before.before.before.before.before.before.before.before.before.before.before.before.before.before.before.before)
+    c.args.c (lists c.before.before.before.before.before.before.before.before.before.before.before.before.before.before.before.before) _ c.fill.result c.judge-j.result.fault (fitting c.before.before.before.before.before.before.before.before.before.before.before.before.before.before.before)
     c.judge-j.ensures.1 (sym c.is_found.ensures ∙ c.if-is_found.false) c.fill.ensures.1 c.fill.ensures.0
 
 pub read_spec : {M : Type 1} → statement M

@@ -93,7 +93,8 @@ gather_requires_4 c κs =
 
 returns_2 : tie.Need-returns
 returns_2 c =
-    all_read (typed (slice_known_8_1_to_scan_r c)) (lent (slice_known_8_1_to_scan_r c)) c.scan-r.result c.scan-r.ensures _ (fine (slice_known_8_1_to_else_is_found c)) c.gather.ensures c.gather-2.ensures
+    all_read (typed (slice_known_8_1_to_scan_r c)) (lent (slice_known_8_1_to_scan_r c)) c.scan-r.result c.scan-r.ensures _
+    (fine (slice_known_8_1_to_else_is_found c)) c.gather.ensures c.gather-2.ensures
     c.gather-3.ensures c.gather-4.ensures
 
 pub read_spec : {M : Type 1} → statement M

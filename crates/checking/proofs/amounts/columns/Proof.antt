@@ -29,7 +29,8 @@ abbrev decreases_loop : tie.decreases-loop-j
 decreases_loop bytes sellers₀ buyers₀ kinds₀ prices₀ quantities₀ section n j₀ sellers buyers kinds prices quantities j = n - j
 
 -- ways back: X_to_Y leads from the place X of the code to the earlier place Y
-abbrev contract_of_k_to_section_of_section : tie.After-contract_of-k invariant_loop decreases_loop → tie.After-section_of-section invariant_loop decreases_loop
+abbrev contract_of_k_to_section_of_section : tie.After-contract_of-k invariant_loop decreases_loop → tie.After-section_of-section
+    invariant_loop decreases_loop
 contract_of_k_to_section_of_section c = c.before.before.before.before
 
 abbrev section : tie.After-section_of-section invariant_loop decreases_loop → List ℕ

@@ -103,7 +103,8 @@ quantities : (c : tie.After-columns)
     → take c.args.c.contracts c.columns.new.quantities
     ≡ (sheet (columns_to_start c)).deals.quantities
 quantities c =
-    front_is _ _ _ _ (few (columns_to_start c)) ((ok (columns_to_start c)).whole.quantities ∙ count (columns_to_start c)) c.columns.ensures.4
+    front_is _ _ _ _ (few (columns_to_start c)) ((ok (columns_to_start c)).whole.quantities ∙ count (columns_to_start c))
+    c.columns.ensures.4
 
 columns_requires : tie.Need-columns-requires
 columns_requires c κs = (

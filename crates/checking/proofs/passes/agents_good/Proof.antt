@@ -4,7 +4,6 @@ use Prim.Native.Nat.{◌≤◌, ◌-◌}
 use native.Mathlib.Omega.{arith}
 use borrow.Author.Rules.{rules}
 use lib.ListN.{length}
-use Rattle.sums.specs.Lists.{at}
 use Rattle.statement.specs.Decide.{every}
 use Rattle.checking.specs.Accounts.{retailer_at}
 use Rattle.checking.proofs.Loops.{every_none, every_step}

@@ -18,13 +18,16 @@ abbrev decreases_loop : tie.decreases-loop-i
 decreases_loop buyers kinds prices quantities amounts demands seen sums all₀ i₀ all i = length quantities - i
 
 -- ways back: X_to_Y leads from the place X of the code to the earlier place Y
-abbrev shared_slice_known_in_loop_i_2_1_unread_to_shared_slice_known_in_loop_i_1 : tie.After-shared_slice_known-in-loop-i-2-1-unread invariant_loop decreases_loop → tie.After-shared_slice_known-in-loop-i-1 invariant_loop decreases_loop
+abbrev shared_slice_known_in_loop_i_2_1_unread_to_shared_slice_known_in_loop_i_1 : tie.After-shared_slice_known-in-loop-i-2-1-unread
+    invariant_loop decreases_loop → tie.After-shared_slice_known-in-loop-i-1 invariant_loop decreases_loop
 shared_slice_known_in_loop_i_2_1_unread_to_shared_slice_known_in_loop_i_1 c = c.before.before.before
 
-abbrev shared_slice_known_in_loop_i_6_1_to_shared_slice_known_in_loop_i_1 : tie.After-shared_slice_known-in-loop-i-6-1 invariant_loop decreases_loop → tie.After-shared_slice_known-in-loop-i-1 invariant_loop decreases_loop
+abbrev shared_slice_known_in_loop_i_6_1_to_shared_slice_known_in_loop_i_1 : tie.After-shared_slice_known-in-loop-i-6-1 invariant_loop
+    decreases_loop → tie.After-shared_slice_known-in-loop-i-1 invariant_loop decreases_loop
 shared_slice_known_in_loop_i_6_1_to_shared_slice_known_in_loop_i_1 c = c.before.before.before.before.before.before.before
 
-abbrev group_at_one_to_shared_slice_known_in_loop_i_1 : tie.After-group_at-one invariant_loop decreases_loop → tie.After-shared_slice_known-in-loop-i-1 invariant_loop decreases_loop
+abbrev group_at_one_to_shared_slice_known_in_loop_i_1 : tie.After-group_at-one invariant_loop decreases_loop →
+    tie.After-shared_slice_known-in-loop-i-1 invariant_loop decreases_loop
 group_at_one_to_shared_slice_known_in_loop_i_1 c = c.before.before.before.before.before.before.before.before
 
 loop_holds : tie.Need-loop-i-init invariant_loop decreases_loop

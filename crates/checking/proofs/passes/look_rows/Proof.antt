@@ -18,10 +18,12 @@ abbrev decreases_loop : tie.decreases-loop-i
 decreases_loop buyers kinds prices quantities amounts demands all₀ i₀ all i = length quantities - i
 
 -- ways back: X_to_Y leads from the place X of the code to the earlier place Y
-abbrev shared_slice_known_in_loop_i_5_1_to_shared_slice_known_in_loop_i_1 : tie.After-shared_slice_known-in-loop-i-5-1 invariant_loop decreases_loop → tie.After-shared_slice_known-in-loop-i-1 invariant_loop decreases_loop
+abbrev shared_slice_known_in_loop_i_5_1_to_shared_slice_known_in_loop_i_1 : tie.After-shared_slice_known-in-loop-i-5-1 invariant_loop
+    decreases_loop → tie.After-shared_slice_known-in-loop-i-1 invariant_loop decreases_loop
 shared_slice_known_in_loop_i_5_1_to_shared_slice_known_in_loop_i_1 c = c.before.before.before.before.before
 
-abbrev look_s_to_shared_slice_known_in_loop_i_1 : tie.After-look-s invariant_loop decreases_loop → tie.After-shared_slice_known-in-loop-i-1 invariant_loop decreases_loop
+abbrev look_s_to_shared_slice_known_in_loop_i_1 : tie.After-look-s invariant_loop decreases_loop →
+    tie.After-shared_slice_known-in-loop-i-1 invariant_loop decreases_loop
 look_s_to_shared_slice_known_in_loop_i_1 c = c.before.before.before.before.before.before
 
 loop_holds : tie.Need-loop-i-init invariant_loop decreases_loop

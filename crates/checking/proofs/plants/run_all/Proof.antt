@@ -22,7 +22,8 @@ run_one_requires c κs = let h = c.loop-i.invariant.1.most in omega arith
 loop_again : tie.Need-loop-i-preserved invariant_loop decreases_loop
 loop_again c = (
   omega arith,
-  ran_more _ _ _ _ _ c.loop-i.i _ _ c.run_one-v.ensures (omega (arith, c.shared_slice_known-in-loop-i-1.given c.loop-i.i)) c.loop-i.invariant.1,
+  ran_more _ _ _ _ _ c.loop-i.i _ _ c.run_one-v.ensures (omega (arith, c.shared_slice_known-in-loop-i-1.given c.loop-i.i))
+      c.loop-i.invariant.1,
 )
 
 returns : tie.Need-returns invariant_loop decreases_loop

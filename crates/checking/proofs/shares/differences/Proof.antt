@@ -24,8 +24,11 @@ slice_write_out : tie.Need-bounds-out-a invariant_loop decreases_loop
 slice_write_out c = omega (arith, c.loop-a.invariant.1.long)
 
 loop_again : tie.Need-loop-a-preserved invariant_loop decreases_loop
-loop_again c =
-    (omega arith, filled_more 0 _ c.loop-a.out c.loop-a.a _ _ (omega (arith, c.loop-a.invariant.1.long)) c.less.ensures c.loop-a.invariant.1)
+loop_again c = (
+  omega arith,
+  filled_more 0 _ c.loop-a.out c.loop-a.a _ _ (omega (arith, c.loop-a.invariant.1.long)) c.less.ensures
+      c.loop-a.invariant.1,
+)
 
 same_length : tie.Need-shape_of-out invariant_loop decreases_loop
 same_length c = c.loop-a.invariant.1.long

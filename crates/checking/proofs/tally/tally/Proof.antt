@@ -21,13 +21,15 @@ abbrev decreases_loop : tie.decreases-loop-j
 decreases_loop keys values out₀ n j₀ out j = n - j
 
 -- ways back: X_to_Y leads from the place X of the code to the earlier place Y
-abbrev loop_j_to_shared_slice_known_2_1 : tie.After-loop-j invariant_loop decreases_loop → tie.After-shared_slice_known-2-1 invariant_loop decreases_loop
+abbrev loop_j_to_shared_slice_known_2_1 : tie.After-loop-j invariant_loop decreases_loop → tie.After-shared_slice_known-2-1
+    invariant_loop decreases_loop
 loop_j_to_shared_slice_known_2_1 c = c.before.before.before
 
 abbrev wide_to_in_loop_j : tie.After-wide invariant_loop decreases_loop → tie.In-loop-j invariant_loop decreases_loop
 wide_to_in_loop_j c = c.before.before.before.before
 
-abbrev wide_to_shared_slice_known_2_1 : tie.After-wide invariant_loop decreases_loop → tie.After-shared_slice_known-2-1 invariant_loop decreases_loop
+abbrev wide_to_shared_slice_known_2_1 : tie.After-wide invariant_loop decreases_loop → tie.After-shared_slice_known-2-1 invariant_loop
+    decreases_loop
 wide_to_shared_slice_known_2_1 c = c.before.before.before.before.before.before.before
 
 -- row j names an agent

@@ -24,7 +24,8 @@ abbrev decreases_loop : tie.decreases-loop-i
 decreases_loop bytes holders₀ flags₀ musts₀ offers₀ available₀ section n i₀ holders flags musts offers available i = n - i
 
 -- ways back: X_to_Y leads from the place X of the code to the earlier place Y
-abbrev plant_of_p_to_section_of_section : tie.After-plant_of-p invariant_loop decreases_loop → tie.After-section_of-section invariant_loop decreases_loop
+abbrev plant_of_p_to_section_of_section : tie.After-plant_of-p invariant_loop decreases_loop → tie.After-section_of-section
+    invariant_loop decreases_loop
 plant_of_p_to_section_of_section c = c.before.before.before.before
 
 abbrev section : tie.After-section_of-section invariant_loop decreases_loop → List ℕ

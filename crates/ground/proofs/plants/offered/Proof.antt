@@ -21,13 +21,16 @@ abbrev decreases_loop : tie.decreases-loop-i
 decreases_loop bytes section n available₀ must₀ i₀ available must i = n - i
 
 -- ways back: X_to_Y leads from the place X of the code to the earlier place Y
-abbrev plant_of_p_to_section_of_section : tie.After-plant_of-p invariant_loop decreases_loop → tie.After-section_of-section invariant_loop decreases_loop
+abbrev plant_of_p_to_section_of_section : tie.After-plant_of-p invariant_loop decreases_loop → tie.After-section_of-section
+    invariant_loop decreases_loop
 plant_of_p_to_section_of_section c = c.before.before.before.before
 
-abbrev struct_known_1_to_section_of_section : tie.After-struct_known-1 invariant_loop decreases_loop → tie.After-section_of-section invariant_loop decreases_loop
+abbrev struct_known_1_to_section_of_section : tie.After-struct_known-1 invariant_loop decreases_loop → tie.After-section_of-section
+    invariant_loop decreases_loop
 struct_known_1_to_section_of_section c = c.before.before.before.before.before
 
-abbrev struct_known_in_loop_i_1_to_section_of_section : tie.After-struct_known-in-loop-i-1 invariant_loop decreases_loop → tie.After-section_of-section invariant_loop decreases_loop
+abbrev struct_known_in_loop_i_1_to_section_of_section : tie.After-struct_known-in-loop-i-1 invariant_loop decreases_loop →
+    tie.After-section_of-section invariant_loop decreases_loop
 struct_known_in_loop_i_1_to_section_of_section c = c.before.before.before.before.before.before
 
 abbrev row : tie.After-section_of-section invariant_loop decreases_loop → ℕ → Plant
@@ -52,7 +55,8 @@ add_available c =
       arith,
       ap (λ (p : Plant). p.availability) (is c.before),
       (small (struct_known_1_to_section_of_section c) c.loop-i.i (omega arith)).available,
-      sum_most c.loop-i.i most_available (λ j. (row (struct_known_1_to_section_of_section c) j).availability) (λ j m. (small (struct_known_1_to_section_of_section c) j (omega arith)).available),
+      sum_most c.loop-i.i most_available (λ j. (row (struct_known_1_to_section_of_section c) j).availability)
+          (λ j m. (small (struct_known_1_to_section_of_section c) j (omega arith)).available),
       few (struct_known_1_to_section_of_section c),
     )
 
@@ -62,7 +66,8 @@ add_must c =
       arith,
       ap (λ (p : Plant). p.must) (is c.before.before),
       (small (struct_known_in_loop_i_1_to_section_of_section c) c.loop-i.i (omega arith)).must,
-      sum_most c.loop-i.i most_available (λ j. (row (struct_known_in_loop_i_1_to_section_of_section c) j).must) (λ j m. (small (struct_known_in_loop_i_1_to_section_of_section c) j (omega arith)).must),
+      sum_most c.loop-i.i most_available (λ j. (row (struct_known_in_loop_i_1_to_section_of_section c) j).must)
+          (λ j m. (small (struct_known_in_loop_i_1_to_section_of_section c) j (omega arith)).must),
       few (struct_known_in_loop_i_1_to_section_of_section c),
     )
 
@@ -70,8 +75,18 @@ loop_again : tie.Need-loop-i-preserved invariant_loop decreases_loop
 loop_again c =
     let p = is c.before.before in (
       search rules,
-      omega (arith, ap (λ (q : Plant). q.availability) p, sum_step c.loop-i.i (λ j. (row (struct_known_in_loop_i_1_to_section_of_section c) j).availability)),
-      omega (arith, ap (λ (q : Plant). q.must) p, sum_step c.loop-i.i (λ j. (row (struct_known_in_loop_i_1_to_section_of_section c) j).must)),
+      omega (
+        arith,
+        ap (λ (q : Plant). q.availability) p,
+        sum_step c.loop-i.i
+            (λ j. (row (struct_known_in_loop_i_1_to_section_of_section c) j).availability),
+      ),
+      omega (
+        arith,
+        ap (λ (q : Plant). q.must) p,
+        sum_step c.loop-i.i (λ j. (row (struct_known_in_loop_i_1_to_section_of_section c)
+            j).must),
+      ),
     )
 
 returns : tie.Need-returns invariant_loop decreases_loop

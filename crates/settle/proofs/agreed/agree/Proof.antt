@@ -56,8 +56,10 @@ filled c =
     c.assign.ensures
 
 hold_requires : tie.Need-hold-requires
-hold_requires c κs =
-    (holding _ _ c.requires.0 _ c.section_of-section.ensures _ _ (room (hold_arg_1_to_start c)) (filled (hold_arg_1_to_assign c)), c.clear-2.ensures)
+hold_requires c κs = (
+  holding _ _ c.requires.0 _ c.section_of-section.ensures _ _ (room (hold_arg_1_to_start c)) (filled (hold_arg_1_to_assign c)),
+  c.clear-2.ensures,
+)
 
 -- ---- where there are no contracts nobody holds anything
 returns : tie.Need-returns-then-c-eq0
@@ -69,7 +71,8 @@ returns_2 : tie.Need-returns
 returns_2 c =
     record {
       contracted =
-          contracted_are _ _ c.requires.0 _ c.section_of-section.ensures _ _ (room (slice_known_5_1_to_start c)) (filled (slice_known_5_1_to_assign c)) _ c.hold.ensures;
+          contracted_are _ _ c.requires.0 _ c.section_of-section.ensures _ _ (room (slice_known_5_1_to_start c))
+          (filled (slice_known_5_1_to_assign c)) _ c.hold.ensures;
       amounts = filled_count 0 _ _ _ _ _ (sym (count (slice_known_5_1_to_start c))) (filled (slice_known_5_1_to_assign c));
     }
 

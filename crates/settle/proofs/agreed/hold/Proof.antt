@@ -25,25 +25,32 @@ abbrev decreases_loop : tie.decreases-loop-j
 decreases_loop section amounts held₀ n j₀ held j = n - j
 
 -- ways back: X_to_Y leads from the place X of the code to the earlier place Y
-abbrev struct_known_in_loop_j_1_to_contract_of_k : tie.After-struct_known-in-loop-j-1 invariant_loop decreases_loop → tie.After-contract_of-k invariant_loop decreases_loop
+abbrev struct_known_in_loop_j_1_to_contract_of_k : tie.After-struct_known-in-loop-j-1 invariant_loop decreases_loop →
+    tie.After-contract_of-k invariant_loop decreases_loop
 struct_known_in_loop_j_1_to_contract_of_k c = c.before.before.before
 
-abbrev slice_known_in_loop_j_1_to_contract_of_k : tie.After-slice_known-in-loop-j-1 invariant_loop decreases_loop → tie.After-contract_of-k invariant_loop decreases_loop
+abbrev slice_known_in_loop_j_1_to_contract_of_k : tie.After-slice_known-in-loop-j-1 invariant_loop decreases_loop →
+    tie.After-contract_of-k invariant_loop decreases_loop
 slice_known_in_loop_j_1_to_contract_of_k c = c.before.before.before.before
 
-abbrev slice_known_in_loop_j_1_unread_to_contract_of_k : tie.After-slice_known-in-loop-j-1-unread invariant_loop decreases_loop → tie.After-contract_of-k invariant_loop decreases_loop
+abbrev slice_known_in_loop_j_1_unread_to_contract_of_k : tie.After-slice_known-in-loop-j-1-unread invariant_loop decreases_loop →
+    tie.After-contract_of-k invariant_loop decreases_loop
 slice_known_in_loop_j_1_unread_to_contract_of_k c = c.before.before.before.before
 
-abbrev slice_known_in_loop_j_2_1_to_contract_of_k : tie.After-slice_known-in-loop-j-2-1 invariant_loop decreases_loop → tie.After-contract_of-k invariant_loop decreases_loop
+abbrev slice_known_in_loop_j_2_1_to_contract_of_k : tie.After-slice_known-in-loop-j-2-1 invariant_loop decreases_loop →
+    tie.After-contract_of-k invariant_loop decreases_loop
 slice_known_in_loop_j_2_1_to_contract_of_k c = c.before.before.before.before.before
 
-abbrev slice_known_in_loop_j_2_1_unread_to_contract_of_k : tie.After-slice_known-in-loop-j-2-1-unread invariant_loop decreases_loop → tie.After-contract_of-k invariant_loop decreases_loop
+abbrev slice_known_in_loop_j_2_1_unread_to_contract_of_k : tie.After-slice_known-in-loop-j-2-1-unread invariant_loop decreases_loop →
+    tie.After-contract_of-k invariant_loop decreases_loop
 slice_known_in_loop_j_2_1_unread_to_contract_of_k c = c.before.before.before.before.before
 
-abbrev slice_known_in_loop_j_1_to_in_loop_j : tie.After-slice_known-in-loop-j-1 invariant_loop decreases_loop → tie.In-loop-j invariant_loop decreases_loop
+abbrev slice_known_in_loop_j_1_to_in_loop_j : tie.After-slice_known-in-loop-j-1 invariant_loop decreases_loop → tie.In-loop-j
+    invariant_loop decreases_loop
 slice_known_in_loop_j_1_to_in_loop_j c = c.before.before.before.before.before.before
 
-abbrev slice_known_in_loop_j_2_1_to_in_loop_j : tie.After-slice_known-in-loop-j-2-1 invariant_loop decreases_loop → tie.In-loop-j invariant_loop decreases_loop
+abbrev slice_known_in_loop_j_2_1_to_in_loop_j : tie.After-slice_known-in-loop-j-2-1 invariant_loop decreases_loop → tie.In-loop-j
+    invariant_loop decreases_loop
 slice_known_in_loop_j_2_1_to_in_loop_j c = slice_known_in_loop_j_1_to_in_loop_j c.before
 
 -- the row that was read

@@ -41,7 +41,8 @@ slice_write_schedule c = omega (arith, c.loop-i.invariant.1.long)
 loop_again : tie.Need-loop-i-preserved invariant_loop decreases_loop
 loop_again c = (
   search rules,
-  filled_more 0 _ c.loop-i.schedule c.loop-i.i _ _ (omega (arith, c.loop-i.invariant.1.long)) (omega (arith, fresh (slice_known_1_to_at_loop_i c)))
+  filled_more 0 _ c.loop-i.schedule c.loop-i.i _ _ (omega (arith, c.loop-i.invariant.1.long))
+      (omega (arith, fresh (slice_known_1_to_at_loop_i c)))
       c.loop-i.invariant.1,
 )
 

@@ -165,8 +165,10 @@ spare : (c : tie.After-set_apart-must)
     → take c.args.c.plants c.set_apart-must.new.available
     ≡ spare_of (sheet (set_apart_must_to_start c))
 spare c =
-    spare_are (sheet (set_apart_must_to_start c)) _ (count (set_apart_must_to_start c)) (listed (set_apart_must_to_columns c)).musts (listed (set_apart_must_to_columns c)).available _
-    (front_fits _ _ _ _ c.columns.ensures.available (few (set_apart_must_to_start c))) (musts_at (set_apart_must_to_columns c)) c.columns.ensures.available.done
+    spare_are (sheet (set_apart_must_to_start c)) _ (count (set_apart_must_to_start c)) (listed (set_apart_must_to_columns c)).musts
+    (listed (set_apart_must_to_columns c)).available _
+    (front_fits _ _ _ _ c.columns.ensures.available (few (set_apart_must_to_start c))) (musts_at (set_apart_must_to_columns c))
+    c.columns.ensures.available.done
     c.set_apart-must.ensures.1
 
 -- the demand that the must-runs leave
@@ -199,7 +201,8 @@ filled : (c : tie.After-add_musts)
     c.args.c.plants (scheduled (sheet (add_musts_to_start c)))
 filled c =
     filled_count 0 _ _ _ _ _ (count (add_musts_to_start c))
-    (scheduled_are _ (ok (add_musts_to_start c)) _ _ _ c.requires.1 _ (rest (add_musts_to_less_rest c)) _ _ (above (add_musts_to_dispatch c)) _
+    (scheduled_are _ (ok (add_musts_to_start c)) _ _ _ c.requires.1 _ (rest (add_musts_to_less_rest c)) _ _
+    (above (add_musts_to_dispatch c)) _
     (filled_count 0 _ _ _ _ _ (sym (count (add_musts_to_start c)))
     (filled_by 0 _ _ _ _ _ (λ i m. ap (λ (x : ℕ). x + at c.dispatch.new.out i) (musts_at (add_musts_to_columns c) i m))
     c.add_musts.ensures)))
@@ -238,7 +241,13 @@ add_musts_requires c κs = (
   (few (add_musts_arg_1_to_start c), omega (arith, room (add_musts_arg_1_to_start c), (above (add_musts_arg_1_to_dispatch c)).result.long)),
   λ i m.
       let p : i < plants (sheet (add_musts_arg_1_to_start c)) = omega (arith, count (add_musts_arg_1_to_start c)) in
-      omega (arith, musts_at (add_musts_arg_1_to_columns c) i m, each (add_musts_arg_1_to_dispatch c) i p, scheduled_le (sheet (add_musts_arg_1_to_start c)) (ok (add_musts_arg_1_to_start c)) i p),
+      omega (
+        arith,
+        musts_at (add_musts_arg_1_to_columns c) i m,
+        each (add_musts_arg_1_to_dispatch c) i p,
+        scheduled_le
+            (sheet (add_musts_arg_1_to_start c)) (ok (add_musts_arg_1_to_start c)) i p,
+      ),
 )
 
 array_share_prefix_holders : tie.Need-slice_bounds-holders-end
@@ -258,7 +267,8 @@ slice_aggregate_tally_2 c = sym (front_long _ _ _ _ (filled (holders_2_1_to_add_
 
 tally_requires : tie.Need-tally-requires
 tally_requires c κs =
-    plants_count _ (ok (tally_arg_1_to_start c)) _ (count (tally_arg_1_to_start c)) _ _ (room (tally_arg_1_to_start c)) (filled (tally_arg_1_to_add_musts c)) _ _ (front (tally_arg_1_to_columns c)).holders c.requires.1.own.long
+    plants_count _ (ok (tally_arg_1_to_start c)) _ (count (tally_arg_1_to_start c)) _ _ (room (tally_arg_1_to_start c))
+    (filled (tally_arg_1_to_add_musts c)) _ _ (front (tally_arg_1_to_columns c)).holders c.requires.1.own.long
     (own_small _ (ok (tally_arg_1_to_start c)) _ _ _ c.requires.1)
 
 array_share_prefix_offers_2 : tie.Need-slice_bounds-offers-end-2
@@ -288,9 +298,11 @@ returns : tie.Need-returns
 returns c =
     let f = front (price_to_columns c) in
     record {
-      price = c.price.ensures ∙ price_is _ (ok (price_to_start c)) _ (count (price_to_start c)) _ _ (room (price_to_start c)) (filled (price_to_add_musts c)) _ _ f.offers f.flags;
+      price = c.price.ensures ∙ price_is _ (ok (price_to_start c)) _ (count (price_to_start c)) _ _ (room (price_to_start c))
+          (filled (price_to_add_musts c)) _ _ f.offers f.flags;
       own =
-          own_is _ (ok (price_to_start c)) _ (count (price_to_start c)) _ _ (room (price_to_start c)) (filled (price_to_add_musts c)) _ c.args.own.now c.tally.new.out f.holders
+          own_is _ (ok (price_to_start c)) _ (count (price_to_start c)) _ _ (room (price_to_start c)) (filled (price_to_add_musts c)) _
+          c.args.own.now c.tally.new.out f.holders
           c.requires.1.own c.tally.ensures;
       schedule = filled_count 0 _ _ _ _ _ (sym (count (price_to_start c))) (filled (price_to_add_musts c));
     }

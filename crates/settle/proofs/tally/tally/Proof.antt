@@ -19,7 +19,8 @@ abbrev decreases_loop : tie.decreases-loop-j
 decreases_loop keys values out₀ n j₀ out j = n - j
 
 -- ways back: X_to_Y leads from the place X of the code to the earlier place Y
-abbrev shared_slice_known_in_loop_j_1_to_in_loop_j : tie.After-shared_slice_known-in-loop-j-1 invariant_loop decreases_loop → tie.In-loop-j invariant_loop decreases_loop
+abbrev shared_slice_known_in_loop_j_1_to_in_loop_j : tie.After-shared_slice_known-in-loop-j-1 invariant_loop decreases_loop →
+    tie.In-loop-j invariant_loop decreases_loop
 shared_slice_known_in_loop_j_1_to_in_loop_j c = c.before.before.before
 
 -- row j names an agent

@@ -1,7 +1,6 @@
 use mathlib.Core.Path.{◌≡◌, ap, sym, ◌∙◌}
 use mathlib.Core.Bool.{true}
 use lib.ListN.{length}
-use borrow.Author.Tests.{not-true, not-false}
 use Rattle.sheet.specs.Reading.{length_good}
 use Rattle.sheet.specs.declared.counting.Counting.{Counting}
 use Rattle.sheet.proofs.Sections.{has_trailer}

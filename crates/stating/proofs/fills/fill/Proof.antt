@@ -67,7 +67,8 @@ loop_again c =
 returns : tie.Need-returns invariant_loop decreases_loop
 returns c =
     let s = c.args.s.now in (
-      sym (c.loop-i.invariant.5 ∙ laws.onward_end s (lent c.loop-i.figures c.loop-i.money c.loop-i.schedule c.loop-i.amounts) c.loop-i.i (omega arith)),
+      sym (c.loop-i.invariant.5 ∙ laws.onward_end s (lent c.loop-i.figures c.loop-i.money c.loop-i.schedule c.loop-i.amounts) c.loop-i.i
+          (omega arith)),
       sym (c.loop-i.invariant.6 ∙ walk.over_end price_line c.loop-i.price newline s c.loop-i.i (omega arith)),
     )
 

@@ -18,8 +18,14 @@ room c = let r = length-replicate {A = ℕ} 385 0 in omega (arith, r, few c)
 
 judge_with_requires : tie.Need-judge_with-requires
 judge_with_requires c κs =
-    let n = all_rows c.args.c in
-    (record { long = length-take-le n (replicate 385 0) (room c.before.before.before.before.before); few = few c.before.before.before.before.before }, zeros_front 385 n (few c.before.before.before.before.before))
+    let n = all_rows c.args.c in (
+      record {
+        long = length-take-le n (replicate 385 0) (room c.before.before.before.before.before);
+        few = few
+            c.before.before.before.before.before;
+      },
+      zeros_front 385 n (few c.before.before.before.before.before),
+    )
 
 pub judge_spec : {M : Type 1} → statement M
 judge_spec =

@@ -42,7 +42,8 @@ loop_again c =
     let a = c.args in
     let s = a.s.now in
     let g = mark_line a.c in
-    let n = walk.over_next g (seen c.loop-i.j c.loop-i.marks) newline s c.loop-i.i c.line_end-e.result (omega arith) c.line_end-e.ensures.cuts in
+    let n = walk.over_next g (seen c.loop-i.j c.loop-i.marks) newline s c.loop-i.i c.line_end-e.result (omega arith)
+    c.line_end-e.ensures.cuts in
     let f = c.mark_line-j.ensures in
     let o = laws.line_once a.c (seen c.loop-i.j c.loop-i.marks) (take (c.line_end-e.result - c.loop-i.i) (drop c.loop-i.i s)) in
     let q = ap (λ (k : Marked). k.line) f in

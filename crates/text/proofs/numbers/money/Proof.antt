@@ -28,7 +28,8 @@ returns_2 c =
     let s = c.args.s.now in
     let m : has_minus s ≡ false = ne_eqb (at s 0) 45 (λ q. c.if-first_byte-eq45.false (c.first_byte.ensures ∙ q)) in
     c.owed-else-first_byte-eq45.ensures
-    ∙ laws.owed_parts s s false c.digits-d-else-first_byte-eq45.result.good c.digits-d-else-first_byte-eq45.result.value m (laws.without_minus s m)
+    ∙ laws.owed_parts s s false c.digits-d-else-first_byte-eq45.result.good c.digits-d-else-first_byte-eq45.result.value m
+    (laws.without_minus s m)
     c.digits-d-else-first_byte-eq45.ensures.0 c.digits-d-else-first_byte-eq45.ensures.1
 
 pub money_spec : {M : Type 1} → statement M

@@ -60,7 +60,14 @@ loop_again c =
 returns : tie.Need-returns invariant_loop decreases_loop
 returns c =
     let e : c.loop-k.k ≡ 0 = omega arith in
-    record { put = λ p q. let g = c.loop-k.invariant.2 p q in record { text_is = rw e at g.text; low = omega (arith, g.low); high = g.high } }
+    record {
+      put = λ p q. let g = c.loop-k.invariant.2 p q in record {
+        text_is = rw e at g.text;
+        low = omega (arith, g.low);
+        high =
+            g.high;
+      };
+    }
 
 pub put_joined_spec : {M : Type 1} → statement M
 put_joined_spec =

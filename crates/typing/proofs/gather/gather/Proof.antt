@@ -33,7 +33,8 @@ gather_line_requires c κs =
     let s = a.s.now in
     let g = gather_line a.section in
     let x = take (c.line_end-e.result - c.loop-i.i) (drop c.loop-i.i s) in
-    let n = walk.over_next g (take c.loop-i.k c.loop-i.out) newline s c.loop-i.i c.line_end-e.result (omega arith) c.line_end-e.ensures.cuts in
+    let n = walk.over_next g (take c.loop-i.k c.loop-i.out) newline s c.loop-i.i c.line_end-e.result (omega arith)
+    c.line_end-e.ensures.cuts in
     let h = laws.over_grows a.section (g (take c.loop-i.k c.loop-i.out) x) (from newline s (c.line_end-e.result + 1)) in
     let q = ap (length {A = ℕ}) (c.loop-i.invariant.4 ∙ n) in
     (c.loop-i.invariant.1, omega (arith, h, q, c.requires, c.loop-i.invariant.2))
@@ -43,19 +44,23 @@ loop_again c =
     let a = c.args in
     let s = a.s.now in
     let g = gather_line a.section in
-    let n = walk.over_next g (take c.loop-i.k c.loop-i.out) newline s c.loop-i.i c.line_end-e.result (omega arith) c.line_end-e.ensures.cuts in (
+    let n = walk.over_next g (take c.loop-i.k c.loop-i.out) newline s c.loop-i.i c.line_end-e.result (omega arith)
+    c.line_end-e.ensures.cuts in (
       omega arith,
       c.gather_line-k.ensures.3,
       c.gather_line-k.auto.out ∙ c.loop-i.invariant.2,
-      c.gather_line-k.ensures.1 ∙ laws.drop_later c.loop-i.out a.out.now c.loop-i.k c.gather_line-k.result c.gather_line-k.ensures.2 c.loop-i.invariant.3,
+      c.gather_line-k.ensures.1 ∙ laws.drop_later c.loop-i.out a.out.now c.loop-i.k c.gather_line-k.result c.gather_line-k.ensures.2
+          c.loop-i.invariant.3,
       c.loop-i.invariant.4 ∙ n ∙ ap (λ (l : List ℕ). over g l (from newline s (c.line_end-e.result + 1))) (sym c.gather_line-k.ensures.0),
     )
 
 returns : tie.Need-returns invariant_loop decreases_loop
 returns c =
     let a = c.args in
-    let t = c.loop-i.invariant.4 ∙ walk.over_end (gather_line a.section) (take c.loop-i.k c.loop-i.out) newline a.s.now c.loop-i.i (omega arith) in
-    laws.front_filled (listed a.section a.s.now) c.loop-i.out a.out.now c.loop-i.k t c.loop-i.invariant.1 c.loop-i.invariant.3 c.loop-i.invariant.2
+    let t = c.loop-i.invariant.4 ∙ walk.over_end (gather_line a.section) (take c.loop-i.k c.loop-i.out) newline a.s.now c.loop-i.i
+    (omega arith) in
+    laws.front_filled (listed a.section a.s.now) c.loop-i.out a.out.now c.loop-i.k t c.loop-i.invariant.1 c.loop-i.invariant.3
+    c.loop-i.invariant.2
 
 pub gather_spec : {M : Type 1} → statement M
 gather_spec =

@@ -41,7 +41,8 @@ loop_again c =
       omega arith,
       omega arith,
       c.loop-i.invariant.2
-          ∙ laws.find_later a.section c.loop-i.left c.loop-i.line a.s.now c.loop-i.i c.line_end-e.result (omega arith) c.line_end-e.ensures.cuts t
+          ∙ laws.find_later a.section c.loop-i.left c.loop-i.line a.s.now c.loop-i.i c.line_end-e.result (omega arith)
+          c.line_end-e.ensures.cuts t
           ∙ ap (λ (x : ℕ). line_from a.section x (c.loop-i.line + 1) (from newline a.s.now (c.line_end-e.result + 1))) (sym n),
     )
 

@@ -35,7 +35,8 @@ loop_again c =
     let a = c.args in
     let s = a.s.now in
     let x = take (c.line_end-e.result - c.loop-i.i) (drop c.loop-i.i s) in
-    let g = walk.over_next (scan_line a.rooms) c.loop-i.j newline s c.loop-i.i c.line_end-e.result (omega arith) c.line_end-e.ensures.cuts in
+    let g = walk.over_next (scan_line a.rooms) c.loop-i.j newline s c.loop-i.i c.line_end-e.result (omega arith)
+    c.line_end-e.ensures.cuts in
     let f = c.scan_line-j.ensures in
     let o = laws.line_once a.rooms c.loop-i.j x in
     let q = ap (λ (j : Scan). j.line) f in (

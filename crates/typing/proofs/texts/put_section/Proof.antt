@@ -44,11 +44,13 @@ loop_again c =
       λ p q.
           let f = c.loop-left.invariant.2 p q in
           let w = c.put_line-i.ensures.put (omega (arith, f.low, p, c.loop-left-test.true)) (omega (arith, f.high, q, z)) in
-          let e = w.text_is ∙ ap (λ (x : Words). row_text (word_for a.k) (row_typed a.k x) (drop c.loop-left.i c.loop-left.s)) c.row_at.ensures in
+          let e = w.text_is ∙ ap (λ (x : Words). row_text (word_for a.k) (row_typed a.k x) (drop c.loop-left.i c.loop-left.s))
+          c.row_at.ensures in
           record {
             low = omega (arith, f.low, w.low);
             high = omega (arith, f.high, w.high);
-            text = f.text ∙ lines_more g c.loop-left.left (drop c.loop-left.i c.loop-left.s) c.loop-left-test.true ∙ ap (lines_to g (c.loop-left.left - 1)) (sym e);
+            text = f.text ∙ lines_more g c.loop-left.left (drop c.loop-left.i c.loop-left.s) c.loop-left-test.true ∙ ap
+                (lines_to g (c.loop-left.left - 1)) (sym e);
           },
     )
 

@@ -13,7 +13,6 @@ use lib.Dec.{leb}
 use Prim.Native.Nat.{ℕ}
 use mathlib.Core.Bool.{true}
 use mathlib.Core.Path.{◌≡◌, sym, ap, ◌∙◌}
-use borrow.Author.Tests.{not-true, not-false}
 use borrow.Author.Rules.{rules}
 use Rattle.writing.proofs.judge.write_verdict.Statement.{statement}
 use Rattle.writing.proofs.judge.write_verdict.Tie as tie
