@@ -5,7 +5,6 @@ use mathlib.Core.List.{List}
 use mathlib.Core.Logic.{◌↔◌, ◌⊎◌, inl, inr}
 use mathlib.Core.Path.{◌≡◌, refl, ap, ◌∙◌, sym}
 use lib.IntN.{pos}
-use Rattle.sums.specs.Lists.{at}
 use Rattle.sums.proofs.Fill.{filled_count, filled_same}
 use Rattle.refusals.specs.Refusals.{refused, cells, number_of}
 use Rattle.refusals.specs.declared.Verdict.{Verdict}

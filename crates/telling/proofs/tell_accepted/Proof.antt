@@ -8,7 +8,8 @@ returns : tie.Need-returns-then-r-ne0
 returns c =
     let a = c.args in
     told_refusal a.sheet.now a.out.now (refusal c.settle_read-r.result.number c.settle_read-r.result.place)
-    (turned_away_lem a.sheet.now c.settle_read-r.result fresh _ (fresh_room a.sheet.now a.c c.requires) c.settle_read-r.ensures c.if-r-ne0.true)
+    (turned_away_lem a.sheet.now c.settle_read-r.result fresh _ (fresh_room a.sheet.now a.c c.requires) c.settle_read-r.ensures
+    c.if-r-ne0.true)
 
 returns_2 : tie.Need-returns
 returns_2 c =

@@ -1,7 +1,6 @@
 use mathlib.Core.Path.{◌≡◌, sym, ◌∙◌}
 use mathlib.Core.Bool.{true}
 use borrow.Author.Rules.{rules}
-use borrow.Author.Tests.{not-true, not-false}
 use lib.ListN.{length}
 use Rattle.hour.specs.Answer.{lent}
 use Rattle.telling.specs.Text.{lists_serve, statement_text}
@@ -33,7 +32,8 @@ returns_2 : tie.Need-returns
 returns_2 c =
     let a = c.args in
     let l = lent a.figures.now a.money.now a.schedule.now a.amounts.now in
-    given a.c l (good (slice_known_2_1_to_else_not_lists_serve c)) _ (statement_text a.c a.price l) a.out.now _ _ c.put_statement-from.ensures
+    given a.c l (good (slice_known_2_1_to_else_not_lists_serve c)) _ (statement_text a.c a.price l) a.out.now _ _
+    c.put_statement-from.ensures
     c.give.ensures
 
 pub write_spec : {M : Type 1} → statement M

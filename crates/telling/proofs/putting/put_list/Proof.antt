@@ -37,7 +37,8 @@ loop_again c =
           record {
             low = omega (arith, f.low, w.low, c.loop-left-test.true, short);
             high = omega (arith, f.high, w.high);
-            text = going_more g a.n (drop a.at a.s.now) c.loop-left.s c.loop-left.i c.loop-left.left f.text _ c.loop-left-test.true w.text_is;
+            text = going_more g a.n (drop a.at a.s.now) c.loop-left.s c.loop-left.i c.loop-left.left f.text _ c.loop-left-test.true
+                w.text_is;
           },
     )
 
