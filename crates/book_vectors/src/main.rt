@@ -8,8 +8,9 @@ ghost use Rattle.book.specs.Book.{Kept};
 
 use book::{Book, Outcome, Totals};
 use input::cases::{Case, Next};
-use libc::STDOUT_FILENO;
 use refusals::Verdict;
+use std::io;
+use std::io::Read;
 
 // What stands behind the book's cells, so that a write can be seen.
 const UNUSED: u64 = 11936128518282651045;
@@ -51,86 +52,70 @@ fn cells_agree(cells: &[u64; 126], t: Totals) -> bool {
         & (cells[125] == UNUSED)
 }
 
-fn say_unlike(agree: bool) {
-    if !agree {
-        io::write_all(STDOUT_FILENO, b"the cells tell otherwise\n");
-    }
-}
-
-fn print_number(n: u64) {
-    io::write_all(STDOUT_FILENO, b" ");
-    io::print_decimal(STDOUT_FILENO, n);
-}
-
 // The answer's number and place, 0 and 0 where all is fine.
-fn print_answer(v: Verdict) {
+fn print_answer<P: Print>(rt: &P, v: Verdict) -> io::Result<()> {
     match v {
-        Verdict::Fine => {
-            io::print_decimal(STDOUT_FILENO, 0);
-            print_number(0);
-        }
-        Verdict::Refused(r) => {
-            io::print_decimal(STDOUT_FILENO, r.number as u64);
-            print_number(r.place as u64);
-        }
+        Verdict::Fine => rt.print("0 0"),
+        Verdict::Refused(r) => print!(rt; "{} {}", r.number, r.place),
     }
 }
 
-fn print_totals(t: Totals) {
-    print_number(t.demand);
-    print_number(t.losses);
-    print_number(t.bought);
-    print_number(t.money);
-    io::write_all(STDOUT_FILENO, b"\n");
+fn print_totals<P: Print>(rt: &P, t: Totals) -> io::Result<()> {
+    print!(rt; " {} {} {} {}\n", t.demand, t.losses, t.bought, t.money)
+}
+
+// The answer to a call, its totals, and that the cells tell otherwise, where they do.
+fn print_call<P: Print>(rt: &P, v: Verdict, t: Totals, agree: bool) -> io::Result<()> {
+    print_answer(rt, v)?;
+    print_totals(rt, t)?;
+    if !agree {
+        rt.print("the cells tell otherwise\n")?;
+    }
+    Ok(())
 }
 
 // The next n calls, made in turn from an empty book; false where the input ends within them.
-fn run_calls(n: u32) -> bool {
+fn run_calls<P: Print, R: Read>(rt: &P, from: &mut R, n: u32) -> io::Result<bool> {
     let mut held = book::empty();
     let mut cells = [UNUSED; 126];
     capi::day_book::naomhral_book_empty(&mut cells);
     let mut call = [0u32; 6];
-    let mut i = 0;
-    while i < n {
-        if !input::cases::read_numbers(&mut call) {
-            return false;
+    for _ in 0..n {
+        if !input::cases::read_numbers(from, &mut call) {
+            return Ok(false);
         }
         let out = called(&call, held);
         let number = cells_called(&call, &mut cells);
         let verdict = out.verdict;
         let next = out.book;
         let totals = next.totals;
-        print_answer(verdict);
-        print_totals(totals);
-        say_unlike((number == number_told(verdict)) & cells_agree(&cells, totals));
+        let agree = (number == number_told(verdict)) & cells_agree(&cells, totals);
+        print_call(rt, verdict, totals, agree)?;
         held = next;
-        i += 1;
     }
-    true
+    Ok(true)
 }
 
 // The next book, and whether to go on.
-fn run_book(case: u64) -> bool {
-    let head = input::cases::next_number();
+fn run_book<P: Print + Eprint, R: Read>(rt: &P, from: &mut R, case: u64) -> io::Result<bool> {
+    let head = input::cases::next_number(from);
     let Next::Number(n) = head else {
-        return false;
+        return Ok(false);
     };
-    io::write_all(STDOUT_FILENO, b"book ");
-    io::print_decimal(STDOUT_FILENO, case);
-    io::write_all(STDOUT_FILENO, b"\n");
-    if !run_calls(n) {
-        input::cases::complain(Case::Cut);
-        return false;
+    print!(rt; "book {case}\n")?;
+    if !run_calls(rt, from, n)? {
+        input::cases::complain(rt, Case::Cut);
+        return Ok(false);
     }
-    true
+    Ok(true)
 }
 
-fn main() {
-    let mut case: u64 = 0;
-    while case < 1000000 {
-        if !run_book(case) {
-            return;
+fn main(rt: HostRuntime) -> io::Result<()> {
+    let mut from = rt.reader();
+    for case in 0..1000000u64 {
+        if !run_book(&rt, &mut from, case)? {
+            break;
         }
-        case += 1;
     }
+    Ok(())
 }

@@ -3,6 +3,7 @@
 ghost use Rattle.std.specs.Prelude.{◌≤◌};
 
 use crate::printer;
+use std::io;
 
 const CELLS: usize = 130;
 
@@ -32,16 +33,22 @@ fn call(enters: bool, book: &mut [u64], n: &[u32]) -> u32 {
     }
 }
 
-fn show(returned: u32, book: [u64; CELLS]) {
-    printer::returned(returned);
-    printer::word(b" cells");
-    printer::wide_numbers(&book[0..5]);
-    printer::wide_numbers(&book[120..124]);
+fn show<P: Print>(rt: &P, returned: u32, book: [u64; CELLS]) -> io::Result<()> {
+    printer::returned(rt, returned)?;
+    printer::word(rt, " cells")?;
+    printer::wide_numbers(rt, &book[0..5])?;
+    printer::wide_numbers(rt, &book[120..124])
 }
 
-pub(crate) fn run(enters: bool, room: u32, fill: u32, numbers: &[u32]) {
+pub(crate) fn run<P: Print>(
+    rt: &P,
+    enters: bool,
+    room: u32,
+    fill: u32,
+    numbers: &[u32],
+) -> io::Result<()> {
     let mut book = cells(fill);
     let k = lent(room);
     let returned = call(enters, &mut book[..k], numbers);
-    show(returned, book);
+    show(rt, returned, book)
 }

@@ -1,8 +1,9 @@
 // A case taken apart, called, and its lent lists printed.
-ghost use Rattle.std.specs.Prelude.{◌≤◌, ◌<◌, length};
+ghost use Rattle.std.specs.Prelude.{◌≤◌, ◌<◌, length, IfOk};
 
 use crate::{books, exported, library, printer};
 use octets::Words;
+use std::io;
 
 // A count of a case; none is over 4,096.
 fn few(n: u32) -> usize
@@ -31,10 +32,8 @@ fn word(s: &[u8], row: usize, k: usize) -> u32
 fn load(s: &[u8], row: usize, list: &mut [u32])
     requires { length list.old ≤ 1300 }
 {
-    let mut i = 0;
-    while i < list.len() {
+    for i in 0..list.len() {
         list[i] = word(s, row, i);
-        i += 1;
     }
 }
 
@@ -57,15 +56,16 @@ fn room(n: u32, most: usize) -> usize
 }
 
 // The functions of the library by number, those for C from 12 on; each of what follows is lent what its own calls ask for.
-fn call_sheet(call: u32, x: u32, y: u32, bytes: &[u8]) {
+fn call_sheet<P: Print>(rt: &P, call: u32, x: u32, y: u32, bytes: &[u8]) -> io::Result<()> {
     match call {
-        1 => library::read(bytes),
-        2 => library::ask_row(bytes, x, y),
-        _ => library::ask_section(bytes, x),
+        1 => library::read(rt, bytes),
+        2 => library::ask_row(rt, bytes, x, y),
+        _ => library::ask_section(rt, bytes, x),
     }
 }
 
-fn call_part(
+fn call_part<P: Print>(
+    rt: &P,
     call: u32,
     x: u32,
     bytes: &[u8],
@@ -74,16 +74,17 @@ fn call_part(
     c: &[u32],
     schedule: &mut [u32],
     amounts: &mut [u32],
-) {
+) -> io::Result<()> {
     match call {
-        5 => library::share(x, a, amounts),
-        6 => library::dispatch(a, b, x, schedule),
-        7 => library::price(a, b, c),
-        _ => library::assign(bytes, a, amounts),
+        5 => library::share(rt, x, a, amounts),
+        6 => library::dispatch(rt, a, b, x, schedule),
+        7 => library::price(rt, a, b, c),
+        _ => library::assign(rt, bytes, a, amounts),
     }
 }
 
-fn call_text(
+fn call_text<P: Print>(
+    rt: &P,
     call: u32,
     x: u32,
     y: u32,
@@ -94,15 +95,16 @@ fn call_text(
     d: &[u32],
     money: &[i64],
     text: &mut [u8],
-) {
+) -> io::Result<()> {
     match call {
-        4 => library::write(a, b, c, d, text),
-        10 => library::print(x, y, a, b, money, text),
-        _ => library::page(bytes, text),
+        4 => library::write(rt, a, b, c, d, text),
+        10 => library::print(rt, x, y, a, b, money, text),
+        _ => library::page(rt, bytes, text),
     }
 }
 
-fn call_library(
+fn call_library<P: Print>(
+    rt: &P,
     call: u32,
     x: u32,
     y: u32,
@@ -116,16 +118,17 @@ fn call_library(
     schedule: &mut [u32],
     amounts: &mut [u32],
     text: &mut [u8],
-) {
+) -> io::Result<()> {
     match call {
-        1..=3 => call_sheet(call, x, y, bytes),
-        5..=8 => call_part(call, x, bytes, a, b, c, schedule, amounts),
-        9 => library::settle(bytes, figures, money, schedule, amounts),
-        _ => call_text(call, x, y, bytes, a, b, c, d, money, text),
+        1..=3 => call_sheet(rt, call, x, y, bytes),
+        5..=8 => call_part(rt, call, x, bytes, a, b, c, schedule, amounts),
+        9 => library::settle(rt, bytes, figures, money, schedule, amounts),
+        _ => call_text(rt, call, x, y, bytes, a, b, c, d, money, text),
     }
 }
 
-fn export_text(
+fn export_text<P: Print>(
+    rt: &P,
     call: u32,
     bytes: &[u8],
     a: &[u32],
@@ -135,15 +138,16 @@ fn export_text(
     amounts: &mut [u32],
     text: &mut [u8],
     answer: &mut [u32],
-) {
+) -> io::Result<()> {
     match call {
-        14 => exported::write(a, b, c, d, text, answer),
-        16 => exported::page(bytes, text, answer),
-        _ => exported::mend(bytes, text, amounts, answer),
+        14 => exported::write(rt, a, b, c, d, text, answer),
+        16 => exported::page(rt, bytes, text, answer),
+        _ => exported::mend(rt, bytes, text, amounts, answer),
     }
 }
 
-fn export_told(
+fn export_told<P: Print>(
+    rt: &P,
     call: u32,
     x: u32,
     y: u32,
@@ -152,18 +156,19 @@ fn export_told(
     b: &[u32],
     amounts: &mut [u32],
     answer: &mut [u32],
-) {
+) -> io::Result<()> {
     match call {
-        12 => exported::share(x, a, amounts),
-        13 => exported::read(bytes, answer),
-        18 => exported::why_plant(bytes, x, answer),
-        19 => exported::why_contract(bytes, x, answer),
-        21 => exported::entry(bytes, a, b, answer),
-        _ => books::run(call == 22, x, y, a),
+        12 => exported::share(rt, x, a, amounts),
+        13 => exported::read(rt, bytes, answer),
+        18 => exported::why_plant(rt, bytes, x, answer),
+        19 => exported::why_contract(rt, bytes, x, answer),
+        21 => exported::entry(rt, bytes, a, b, answer),
+        _ => books::run(rt, call == 22, x, y, a),
     }
 }
 
-fn call_exported(
+fn call_exported<P: Print>(
+    rt: &P,
     call: u32,
     x: u32,
     y: u32,
@@ -178,40 +183,44 @@ fn call_exported(
     amounts: &mut [u32],
     text: &mut [u8],
     answer: &mut [u32],
-) {
+) -> io::Result<()> {
     match call {
-        14 | 16 | 20 => export_text(call, bytes, a, b, c, d, amounts, text, answer),
-        15 => exported::settle(bytes, figures, money, schedule, amounts, answer),
-        17 => exported::check(bytes, x, a, b, c, figures, money, schedule, amounts, answer),
-        _ => export_told(call, x, y, bytes, a, b, amounts, answer),
+        14 | 16 | 20 => export_text(rt, call, bytes, a, b, c, d, amounts, text, answer),
+        15 => exported::settle(rt, bytes, figures, money, schedule, amounts, answer),
+        17 => exported::check(
+            rt, bytes, x, a, b, c, figures, money, schedule, amounts, answer,
+        ),
+        _ => export_told(rt, call, x, y, bytes, a, b, amounts, answer),
     }
 }
 
 // A line for each lent list, after the line of the answer.
-fn print_lent(
+fn print_lent<P: Print>(
+    rt: &P,
     figures: &[u32],
     money: &[i64],
     schedule: &[u32],
     amounts: &[u32],
     text: &[u8],
     answer: &[u32],
-) {
-    printer::word(b"\nfigures");
-    printer::numbers(figures);
-    printer::word(b"\nmoney");
-    printer::money(money);
-    printer::word(b"\nschedule");
-    printer::numbers(schedule);
-    printer::word(b"\namounts");
-    printer::numbers(amounts);
-    printer::word(b"\ntext");
-    printer::bytes(text);
-    printer::word(b"\nanswer");
-    printer::numbers(answer);
-    printer::word(b"\n");
+) -> io::Result<()> {
+    printer::word(rt, "\nfigures")?;
+    printer::numbers(rt, figures)?;
+    printer::word(rt, "\nmoney")?;
+    printer::money(rt, money)?;
+    printer::word(rt, "\nschedule")?;
+    printer::numbers(rt, schedule)?;
+    printer::word(rt, "\namounts")?;
+    printer::numbers(rt, amounts)?;
+    printer::word(rt, "\ntext")?;
+    printer::bytes(rt, text)?;
+    printer::word(rt, "\nanswer")?;
+    printer::numbers(rt, answer)?;
+    printer::word(rt, "\n")
 }
 
-fn call_either(
+fn call_either<P: Print>(
+    rt: &P,
     call: u32,
     x: u32,
     y: u32,
@@ -226,19 +235,20 @@ fn call_either(
     amounts: &mut [u32],
     text: &mut [u8],
     answer: &mut [u32],
-) {
+) -> io::Result<()> {
     if call < 12 {
         call_library(
-            call, x, y, bytes, a, b, c, d, figures, money, schedule, amounts, text,
+            rt, call, x, y, bytes, a, b, c, d, figures, money, schedule, amounts, text,
         )
     } else {
         call_exported(
-            call, x, y, bytes, a, b, c, d, figures, money, schedule, amounts, text, answer,
+            rt, call, x, y, bytes, a, b, c, d, figures, money, schedule, amounts, text, answer,
         )
     }
 }
 
-fn call_and_print(
+fn call_and_print<P: Print>(
+    rt: &P,
     call: u32,
     x: u32,
     y: u32,
@@ -253,15 +263,16 @@ fn call_and_print(
     amounts: &mut [u32],
     text: &mut [u8],
     answer: &mut [u32],
-) {
+) -> io::Result<()> {
     call_either(
-        call, x, y, bytes, a, b, c, d, figures, money, schedule, amounts, text, answer,
-    );
-    print_lent(figures, money, schedule, amounts, text, answer);
+        rt, call, x, y, bytes, a, b, c, d, figures, money, schedule, amounts, text, answer,
+    )?;
+    print_lent(rt, figures, money, schedule, amounts, text, answer)
 }
 
 // The lent lists, each of so many cells that all hold 9.
-fn lend(
+fn lend<P: Print>(
+    rt: &P,
     head: Words,
     lent: Words,
     more: Words,
@@ -270,7 +281,7 @@ fn lend(
     b: &[u32],
     c: &[u32],
     d: &[u32],
-) {
+) -> io::Result<()> {
     let mut figures = [9u32; 400];
     let mut money = [9i64; 80];
     let mut schedule = [9u32; 80];
@@ -284,6 +295,7 @@ fn lend(
     let t = room(more.first, 512);
     let r = room(more.second, 8);
     call_and_print(
+        rt,
         head.first,
         head.second,
         head.third,
@@ -298,7 +310,7 @@ fn lend(
         &mut amounts[..k],
         &mut text[..t],
         &mut answer[..r],
-    );
+    )
 }
 
 // The row behind n numbers that stand from a row on.
@@ -310,7 +322,8 @@ fn after(row: usize, n: u32) -> usize {
 }
 
 // The lists, which stand from a row on, n of each.
-fn load_and_lend(
+fn load_and_lend<P: Print>(
+    rt: &P,
     head: Words,
     lent: Words,
     more: Words,
@@ -318,7 +331,7 @@ fn load_and_lend(
     s: &[u8],
     row: usize,
     n: Words,
-) {
+) -> io::Result<()> {
     let mut a = [0u32; 1300];
     let mut b = [0u32; 1300];
     let mut c = [0u32; 1300];
@@ -335,6 +348,7 @@ fn load_and_lend(
     let nc = room(n.third, 1300);
     let nd = room(n.fourth, 1300);
     lend(
+        rt,
         head,
         lent,
         more,
@@ -343,7 +357,7 @@ fn load_and_lend(
         &b[..nb],
         &c[..nc],
         &d[..nd],
-    );
+    )
 }
 
 // How many rows a case says that it has, at least 1.
@@ -355,9 +369,9 @@ fn rows_of(n: u32) -> usize
 }
 
 // The case that starts at a row; hands back how many rows it has.
-pub(crate) fn run(s: &[u8], at: usize) -> usize
+pub(crate) fn run<P: Print>(rt: &P, s: &[u8], at: usize) -> io::Result<usize>
     requires { at ≤ 8192 }
-    ensures { (1 ≤ result) × (result ≤ 4097) }
+    ensures { IfOk result (λ rows. (1 ≤ rows) × (rows ≤ 4097)) }
 {
     let head = octets::row_at(s, at);
     let n = few(head.fourth);
@@ -366,6 +380,6 @@ pub(crate) fn run(s: &[u8], at: usize) -> usize
     let counts = octets::row_at(s, at + 1);
     let lent = octets::row_at(s, at + 2);
     let more = octets::row_at(s, at + 3);
-    load_and_lend(head, lent, more, bytes, s, lists, counts);
-    rows_of(more.third)
+    load_and_lend(rt, head, lent, more, bytes, s, lists, counts)?;
+    Ok(rows_of(more.third))
 }

@@ -3,96 +3,128 @@ use crate::printer;
 use hour::Summary;
 use printing::Printed;
 use sheet::{Counts, Fields, Reading};
+use std::io;
 use writing::Writing;
 
-fn counts(c: Counts) {
-    printer::word(b"accepted");
-    printer::number(c.agents as u64);
-    printer::number(c.boundaries as u64);
-    printer::number(c.plants as u64);
-    printer::number(c.contracts as u64);
+fn counts<P: Print>(rt: &P, c: Counts) -> io::Result<()> {
+    printer::word(rt, "accepted")?;
+    printer::number(rt, c.agents as u64)?;
+    printer::number(rt, c.boundaries as u64)?;
+    printer::number(rt, c.plants as u64)?;
+    printer::number(rt, c.contracts as u64)
 }
 
-pub(crate) fn read(bytes: &[u8]) {
+pub(crate) fn read<P: Print>(rt: &P, bytes: &[u8]) -> io::Result<()> {
     match sheet::read(bytes) {
-        Reading::Accepted(c) => counts(c),
-        Reading::Refused(why) => printer::refused(why),
+        Reading::Accepted(c) => counts(rt, c),
+        Reading::Refused(why) => printer::refused(rt, why),
     }
 }
 
-fn fields(f: Fields) {
-    printer::word(b" row");
-    printer::numbers(&[f.first, f.second, f.third, f.fourth, f.fifth]);
+fn fields<P: Print>(rt: &P, f: Fields) -> io::Result<()> {
+    printer::word(rt, " row")?;
+    printer::numbers(rt, &[f.first, f.second, f.third, f.fourth, f.fifth])
 }
 
-pub(crate) fn ask_row(bytes: &[u8], section: u32, row: u32) {
+pub(crate) fn ask_row<P: Print>(rt: &P, bytes: &[u8], section: u32, row: u32) -> io::Result<()> {
     let answer = sheet::asking::ask_row(bytes, section, row);
-    printer::verdict(sheet::verdict_in(answer));
-    fields(sheet::fields_in(answer));
+    printer::verdict(rt, sheet::verdict_in(answer))?;
+    fields(rt, sheet::fields_in(answer))
 }
 
-pub(crate) fn ask_section(bytes: &[u8], section: u32) {
-    printer::verdict(sheet::asking::ask_section(bytes, section));
-    printer::word(b" section");
-    printer::bytes(sheet::asking::section(bytes, section));
+pub(crate) fn ask_section<P: Print>(rt: &P, bytes: &[u8], section: u32) -> io::Result<()> {
+    printer::verdict(rt, sheet::asking::ask_section(bytes, section))?;
+    printer::word(rt, " section")?;
+    printer::bytes(rt, sheet::asking::section(bytes, section))
 }
 
-fn done(n: usize) {
-    printer::word(b"done");
-    printer::number(n as u64);
+fn done<P: Print>(rt: &P, n: usize) -> io::Result<()> {
+    printer::word(rt, "done")?;
+    printer::number(rt, n as u64)
 }
 
-pub(crate) fn write(
+pub(crate) fn write<P: Print>(
+    rt: &P,
     agents: &[u32],
     boundaries: &[u32],
     plants: &[u32],
     contracts: &[u32],
     out: &mut [u8],
-) {
+) -> io::Result<()> {
     match writing::write(agents, boundaries, plants, contracts, out) {
-        Writing::Done(n) => done(n),
-        Writing::Refused(why) => printer::refused(why),
+        Writing::Done(n) => done(rt, n),
+        Writing::Refused(why) => printer::refused(rt, why),
     }
 }
 
-pub(crate) fn share(amount: u32, weights: &[u32], out: &mut [u32]) {
-    printer::verdict(share::share(amount, weights, out));
+pub(crate) fn share<P: Print>(
+    rt: &P,
+    amount: u32,
+    weights: &[u32],
+    out: &mut [u32],
+) -> io::Result<()> {
+    printer::verdict(rt, share::share(amount, weights, out))
 }
 
-pub(crate) fn dispatch(offers: &[u32], available: &[u32], demand: u32, out: &mut [u32]) {
-    printer::verdict(dispatch::dispatch(offers, available, demand, out));
+pub(crate) fn dispatch<P: Print>(
+    rt: &P,
+    offers: &[u32],
+    available: &[u32],
+    demand: u32,
+    out: &mut [u32],
+) -> io::Result<()> {
+    printer::verdict(rt, dispatch::dispatch(offers, available, demand, out))
 }
 
-pub(crate) fn price(offers: &[u32], flags: &[u32], scheduled: &[u32]) {
-    printer::word(b"price");
-    printer::number(dispatch::price(offers, flags, scheduled) as u64);
+pub(crate) fn price<P: Print>(
+    rt: &P,
+    offers: &[u32],
+    flags: &[u32],
+    scheduled: &[u32],
+) -> io::Result<()> {
+    printer::word(rt, "price")?;
+    printer::number(rt, dispatch::price(offers, flags, scheduled) as u64)
 }
 
-pub(crate) fn assign(section: &[u8], demands: &[u32], out: &mut [u32]) {
-    printer::verdict(contracts::assign(section, demands, out));
+pub(crate) fn assign<P: Print>(
+    rt: &P,
+    section: &[u8],
+    demands: &[u32],
+    out: &mut [u32],
+) -> io::Result<()> {
+    printer::verdict(rt, contracts::assign(section, demands, out))
 }
 
-pub(crate) fn settle(
+pub(crate) fn settle<P: Print>(
+    rt: &P,
     bytes: &[u8],
     figures: &mut [u32],
     money: &mut [i64],
     schedule: &mut [u32],
     amounts: &mut [u32],
-) {
+) -> io::Result<()> {
     let s = settle::settle(bytes, figures, money, schedule, amounts);
-    printer::word(b"summary");
-    printer::numbers(&[s.number, s.place, s.price, s.demand, s.losses]);
+    printer::word(rt, "summary")?;
+    printer::numbers(rt, &[s.number, s.place, s.price, s.demand, s.losses])
 }
 
-fn printed(p: Printed) {
+fn printed<P: Print>(rt: &P, p: Printed) -> io::Result<()> {
     match p {
-        Printed::Done(n) => done(n),
-        Printed::Refused(why) => printer::refused(why),
+        Printed::Done(n) => done(rt, n),
+        Printed::Refused(why) => printer::refused(rt, why),
     }
 }
 
 // The page of an hour whose price, demand and losses are x, x and y.
-pub(crate) fn print(x: u32, y: u32, kinds: &[u32], figures: &[u32], money: &[i64], out: &mut [u8]) {
+pub(crate) fn print<P: Print>(
+    rt: &P,
+    x: u32,
+    y: u32,
+    kinds: &[u32],
+    figures: &[u32],
+    money: &[i64],
+    out: &mut [u8],
+) -> io::Result<()> {
     let s = Summary {
         number: 0,
         place: 0,
@@ -100,9 +132,9 @@ pub(crate) fn print(x: u32, y: u32, kinds: &[u32], figures: &[u32], money: &[i64
         demand: x,
         losses: y,
     };
-    printed(printing::print(s, kinds, figures, money, out));
+    printed(rt, printing::print(s, kinds, figures, money, out))
 }
 
-pub(crate) fn page(bytes: &[u8], out: &mut [u8]) {
-    printed(page::page(bytes, out));
+pub(crate) fn page<P: Print>(rt: &P, bytes: &[u8], out: &mut [u8]) -> io::Result<()> {
+    printed(rt, page::page(bytes, out))
 }

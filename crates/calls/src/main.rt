@@ -6,7 +6,7 @@
 #![tactic(auto)]
 
 use input::Input;
-use libc::STDERR_FILENO;
+use std::io;
 
 mod books;
 mod cases;
@@ -14,33 +14,32 @@ mod exported;
 mod library;
 mod printer;
 
-fn run_all(s: &[u8]) {
+fn run_all<P: Print>(rt: &P, s: &[u8]) -> io::Result<()> {
     let rows = s.len() / 16;
     if 8192 < rows {
-        return;
+        return Ok(());
     }
     let mut at = 0;
     let mut case: u64 = 0;
     while at < rows {
-        printer::heading(case);
-        at += cases::run(s, at);
+        printer::heading(rt, case)?;
+        at += cases::run(rt, s, at)?;
         case += 1;
     }
+    Ok(())
 }
 
-fn main() {
+fn main(rt: HostRuntime) -> io::Result<()> {
     let mut buf = [0u8; 131072];
-    let got = input::read_all(&mut buf);
+    let mut from = rt.reader();
+    let got = input::read_all(&mut from, &mut buf);
     match got {
-        Input::Failed => {
-            io::write_all(STDERR_FILENO, b"calls: the input cannot be read\n");
-        }
+        Input::Failed(_) => rt.eprint("calls: the input cannot be read\n"),
         Input::Bytes(n) => {
             if n == buf.len() {
-                io::write_all(STDERR_FILENO, b"calls: the input is too long\n");
-                return;
+                return rt.eprint("calls: the input is too long\n");
             }
-            run_all(&buf[..n]);
+            run_all(&rt, &buf[..n])
         }
     }
 }

@@ -1,88 +1,68 @@
 // What the program prints: words and numbers, a line for each answer and for each lent list.
-use libc::STDOUT_FILENO;
 use refusals::{Refusal, Verdict};
+use std::io;
 
-pub(crate) fn word(w: &[u8]) {
-    io::write_all(STDOUT_FILENO, w);
+pub(crate) fn word<P: Print>(rt: &P, w: &str) -> io::Result<()> {
+    rt.print(w)
 }
 
-pub(crate) fn number(n: u64) {
-    word(b" ");
-    io::print_decimal(STDOUT_FILENO, n);
+pub(crate) fn number<P: Print>(rt: &P, n: u64) -> io::Result<()> {
+    print!(rt; " {n}")
 }
 
-fn small(n: u32) {
-    number(n as u64);
+pub(crate) fn heading<P: Print>(rt: &P, case: u64) -> io::Result<()> {
+    print!(rt; "case {case}\n")
 }
 
-pub(crate) fn heading(case: u64) {
-    word(b"case");
-    number(case);
-    word(b"\n");
+pub(crate) fn refused<P: Print>(rt: &P, why: Refusal) -> io::Result<()> {
+    print!(rt; "refused {} {}", why.number, why.place)
 }
 
-pub(crate) fn refused(why: Refusal) {
-    word(b"refused");
-    number(why.number as u64);
-    number(why.place as u64);
-}
-
-pub(crate) fn verdict(v: Verdict) {
+pub(crate) fn verdict<P: Print>(rt: &P, v: Verdict) -> io::Result<()> {
     match v {
-        Verdict::Fine => word(b"fine"),
-        Verdict::Refused(why) => refused(why),
+        Verdict::Fine => word(rt, "fine"),
+        Verdict::Refused(why) => refused(rt, why),
     }
 }
 
 // What a C function returns.
-pub(crate) fn returned(n: u32) {
-    word(b"returns");
-    number(n as u64);
+pub(crate) fn returned<P: Print>(rt: &P, n: u32) -> io::Result<()> {
+    print!(rt; "returns {n}")
 }
 
-pub(crate) fn numbers(list: &[u32]) {
-    let mut i = 0;
-    while i < list.len() {
-        small(list[i]);
-        i += 1;
+pub(crate) fn numbers<P: Print>(rt: &P, list: &[u32]) -> io::Result<()> {
+    for n in list {
+        print!(rt; " {n}")?;
     }
+    Ok(())
 }
 
-pub(crate) fn wide_numbers(list: &[u64]) {
-    let mut i = 0;
-    while i < list.len() {
-        let n = list[i];
-        number(n);
-        i += 1;
+pub(crate) fn wide_numbers<P: Print>(rt: &P, list: &[u64]) -> io::Result<()> {
+    for n in list {
+        print!(rt; " {n}")?;
     }
+    Ok(())
 }
 
-fn wide(x: u8) -> u64 {
-    x as u64
-}
-
-pub(crate) fn bytes(list: &[u8]) {
-    let mut i = 0;
-    while i < list.len() {
-        number(wide(list[i]));
-        i += 1;
+pub(crate) fn bytes<P: Print>(rt: &P, list: &[u8]) -> io::Result<()> {
+    for n in list {
+        print!(rt; " {n}")?;
     }
+    Ok(())
 }
 
 // Money: below 0 only the sign, since a page shows the rest.
-fn signed(n: i64) {
+fn signed<P: Print>(rt: &P, n: i64) -> io::Result<()> {
     if n < 0 {
-        word(b" -");
+        word(rt, " -")
     } else {
-        number(n as u64);
+        print!(rt; " {n}")
     }
 }
 
-pub(crate) fn money(list: &[i64]) {
-    let mut i = 0;
-    while i < list.len() {
-        let n = list[i];
-        signed(n);
-        i += 1;
+pub(crate) fn money<P: Print>(rt: &P, list: &[i64]) -> io::Result<()> {
+    for n in list {
+        signed(rt, *n)?;
     }
+    Ok(())
 }

@@ -3,8 +3,11 @@ ghost use Rattle.std.specs.Prelude.{length};
 ghost use Rattle.input.specs.Input.{Within};
 
 use input::Input;
-use libc::STDERR_FILENO;
 use sheet::Counts;
+use std::env::Env;
+use std::io::{Error, ErrorKind};
+use std::rt::Files;
+use std::str;
 
 // Room for a sheet: one row more than the longest, so that a longer file is seen to be one.
 pub const ROOM: usize = Counts::LONGEST + 16;
@@ -12,52 +15,66 @@ pub const ROOM: usize = Counts::LONGEST + 16;
 // Room for a text: three times the longest that a sheet has when it is printed, for comments and empty cells.
 pub const TEXT: usize = 262144;
 
+// Room for a file's name, which the system takes up to this.
+pub const NAME: usize = 4096;
+
+// What became of a file, by its name, on standard error: of a name that is no text each strange byte is shown by its number.
+fn tell<E: Eprint>(rt: &E, what: &str, name: &[u8]) {
+    let _ = match str::from_utf8(name) {
+        Ok(name) => eprint!(rt; "desk: {what}: {name}"),
+        Err(_) => eprint!(rt; "desk: {what}: {}", name.escape_ascii()),
+    };
+}
+
+fn tell_why<E: Eprint>(rt: &E, what: &str, name: &[u8], why: Error) {
+    tell(rt, what, name);
+    let _ = eprint!(rt; ": {why}\n");
+}
+
 // The file that word i names, until it ends or the buffer is full. That it cannot be read is told on standard error, by its name.
-pub fn read_named(i: usize, buf: &mut [u8]) -> Input
+pub fn read_named<R: Env + Files + Eprint>(rt: &R, i: usize, buf: &mut [u8]) -> Input
     ensures { Within result (length buf.new) }
 {
-    let mut path = io::buffer();
-    let n = os::arg(i, &mut path);
-    let got = input::read_file(&path[..n], buf);
-    if let Input::Failed = got {
-        io::write_all(STDERR_FILENO, b"desk: cannot be read: ");
-        os::fail(&path[..n]);
+    let mut path = [0u8; NAME];
+    let n = words::word(rt, i, &mut path);
+    let got = input::read_file(rt, &path[..n], buf);
+    if let Input::Failed(why) = got {
+        tell_why(rt, "cannot be read", &path[..n], why);
     }
     got
 }
 
-fn say_too_long(i: usize) {
-    let mut path = io::buffer();
-    let n = os::arg(i, &mut path);
-    io::write_all(STDERR_FILENO, b"desk: longer than a text may be: ");
-    io::write_all(STDERR_FILENO, &path[..n]);
-    io::write_all(STDERR_FILENO, b"\n");
+fn say_too_long<R: Env + Eprint>(rt: &R, i: usize) {
+    let mut path = [0u8; NAME];
+    let n = words::word(rt, i, &mut path);
+    tell(rt, "longer than a text may be", &path[..n]);
+    let _ = rt.eprint("\n");
 }
 
 // The text that word i names, whole or not at all: one that fills the buffer may go on behind it.
-pub fn read_text(i: usize, buf: &mut [u8]) -> Input
+pub fn read_text<R: Env + Files + Eprint>(rt: &R, i: usize, buf: &mut [u8]) -> Input
     ensures { Within result (length buf.new) }
 {
-    let got = read_named(i, buf);
+    let got = read_named(rt, i, buf);
     let Input::Bytes(n) = got else {
-        return Input::Failed;
+        return got;
     };
     if n < buf.len() {
         return Input::Bytes(n);
     }
-    say_too_long(i);
-    Input::Failed
+    say_too_long(rt, i);
+    Input::Failed(Error::from(ErrorKind::FileTooLarge))
 }
 
 // Makes a new file, of the name that word i has, of these bytes, and answers whether it did. Why it could not is told on standard error;
 // then nothing is left under that name, or what was there before.
-pub fn write_named(i: usize, bytes: &[u8]) -> bool {
-    let mut path = io::buffer();
-    let n = os::arg(i, &mut path);
-    let made = words::write_new(&path[..n], bytes);
-    if !made {
-        io::write_all(STDERR_FILENO, b"desk: cannot be written: ");
-        os::fail(&path[..n]);
+pub fn write_named<R: Env + Files + Eprint>(rt: &R, i: usize, bytes: &[u8]) -> bool {
+    let mut path = [0u8; NAME];
+    let n = words::word(rt, i, &mut path);
+    let made = words::write_new(rt, &path[..n], bytes);
+    if let Err(why) = made {
+        tell_why(rt, "cannot be written", &path[..n], why);
+        return false;
     }
-    made
+    true
 }

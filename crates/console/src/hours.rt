@@ -3,27 +3,33 @@ ghost use Rattle.std.specs.Prelude.{◌+◌, ◌*◌, ◌≤◌, ◌<◌, length
 ghost use Rattle.sheet.specs.Reading.{longest};
 ghost use Rattle.day.specs.Day.{hours};
 
-use channels::{files, say};
+use channels::{fail, files, say};
 use day::HOURS;
 use input::Input;
-use libc::{STDERR_FILENO, STDOUT_FILENO};
 use printing::Printed;
+use std::env::Env;
+use std::io;
+use std::io::Error;
+use std::rt::Files;
 
 // Reads all files, the first of which word `first` names, each to a place of its own. Where one cannot be read, which is told by its
 // name, there is no day.
-fn read_files(first: usize, sheets: &mut [u8], sizes: &mut [usize; HOURS]) -> bool
+fn read_files<R: Env + Files + Eprint>(
+    rt: &R,
+    first: usize,
+    sheets: &mut [u8],
+    sizes: &mut [usize; HOURS],
+) -> bool
     requires { (first + hours ≤ 18446744073709551615) × ((longest + 16) * hours ≤ length sheets.old) }
 {
-    let mut h = 0;
-    while h < HOURS {
+    for h in 0..HOURS {
         let a = files::ROOM * h;
         let e = a + files::ROOM;
-        let got = files::read_named(first + h, &mut sheets[a..e]);
+        let got = files::read_named(rt, first + h, &mut sheets[a..e]);
         let Input::Bytes(n) = got else {
             return false;
         };
         sizes[h] = n;
-        h += 1;
     }
     true
 }
@@ -40,131 +46,99 @@ fn stretch(bytes: &[u8], a: usize, n: usize) -> &[u8] {
 }
 
 // The line above a page: the hour and its file, which word `from` names.
-fn print_head(h: usize, from: usize) -> bool {
-    let mut path = io::buffer();
-    let n = os::arg(from, &mut path);
-    let first = say(b"sheet ");
-    let second = io::print_decimal(STDOUT_FILENO, h as u64);
-    let third = say(b" ");
-    let fourth = say(&path[..n]);
-    let fifth = say(b"\n");
-    first & second & third & fourth & fifth
+fn print_head<R: Env + Print>(rt: &R, h: usize, from: usize) -> io::Result<()> {
+    let mut path = [0u8; files::NAME];
+    let n = words::word(rt, from, &mut path);
+    print!(rt; "sheet {h} ")?;
+    say(rt, &path[..n])?;
+    say(rt, b"\n")
 }
-
-// What became of an hour: its page is that of a settled hour, or of a refused one, or it could not be written.
-const SETTLED: u32 = 0;
-
-const REFUSED: u32 = 1;
-
-const UNWRITTEN: u32 = 2;
 
 // A settled hour's page begins with `hour`, a refused one's with `refused`.
-fn kind_of(page: &[u8]) -> u32 {
-    if page.len() == 0 {
-        return UNWRITTEN;
+fn is_settled(page: &[u8]) -> bool {
+    match page {
+        [first, ..] => *first == b'h',
+        [] => false,
     }
-    if page[0] == b'h' { SETTLED } else { REFUSED }
 }
 
-// The page of hour h under its line.
-fn print_hour(h: usize, from: usize, sheet: &[u8]) -> u32 {
+// The page of hour h under its line. Answers whether the hour was settled.
+fn print_hour<R: Env + Print>(rt: &R, h: usize, from: usize, sheet: &[u8]) -> io::Result<bool> {
     let mut text = [0u8; page::MOST];
     let printed = page::page(sheet, &mut text);
     let Printed::Done(n) = printed else {
-        return UNWRITTEN;
+        return Err(Error::other("a page is longer than any page can be"));
     };
     let page = stretch(&text, 0, n);
-    if !print_head(h, from) {
-        return UNWRITTEN;
-    }
-    if !say(page) {
-        return UNWRITTEN;
-    }
-    kind_of(page)
+    print_head(rt, h, from)?;
+    say(rt, page)?;
+    Ok(is_settled(page))
 }
 
-// Prints the pages and keeps what became of each hour. False where one could not be written.
-fn print_hours(first: usize, sheets: &[u8], sizes: &[usize; HOURS], told: &mut [u32; HOURS]) -> bool
+// Prints the pages and keeps which hours were settled.
+fn print_hours<R: Env + Print>(
+    rt: &R,
+    first: usize,
+    sheets: &[u8],
+    sizes: &[usize; HOURS],
+    settled: &mut [bool; HOURS],
+) -> io::Result<()>
     requires { first + hours ≤ 18446744073709551615 }
 {
-    let mut h = 0;
-    while h < HOURS {
+    for h in 0..HOURS {
         let sheet = stretch(sheets, files::ROOM * h, sizes[h]);
-        let kind = print_hour(h, first + h, sheet);
-        if kind == UNWRITTEN {
-            return false;
-        }
-        told[h] = kind;
-        h += 1;
+        settled[h] = print_hour(rt, h, first + h, sheet)?;
     }
-    true
-}
-
-fn count_settled(told: &[u32; HOURS]) -> usize {
-    let mut n = 0;
-    let mut h = 0;
-    while h < HOURS {
-        n += one_if(told[h] == SETTLED);
-        h += 1;
-    }
-    n
-}
-
-fn one_if(test: bool) -> usize
-    ensures { result ≤ 1 }
-{
-    if test { 1 } else { 0 }
-}
-
-// A refused hour in the last line.
-fn print_refused(h: usize, kind: u32) {
-    if kind == REFUSED {
-        say(b" ");
-        io::print_decimal(STDOUT_FILENO, h as u64);
-    }
+    Ok(())
 }
 
 // How many hours were settled, and which were refused.
-fn print_last(told: &[u32; HOURS]) {
-    say(b"day ");
-    io::print_decimal(STDOUT_FILENO, count_settled(told) as u64);
-    say(b" settled, refused:");
-    let mut h = 0;
-    while h < HOURS {
-        print_refused(h, told[h]);
-        h += 1;
+fn print_last<P: Print>(rt: &P, settled: &[bool; HOURS]) -> io::Result<()> {
+    let count = settled.iter().filter(|is| **is).count();
+    print!(rt; "day {count} settled, refused:")?;
+    for h in 0..HOURS {
+        if !settled[h] {
+            print!(rt; " {h}")?;
+        }
     }
-    if !say(b"\n") {
-        os::fail(b"desk: the day cannot be written");
-    }
+    say(rt, b"\n")
 }
 
-fn run_files(first: usize)
+fn print_day<R: Env + Print>(
+    rt: &R,
+    first: usize,
+    sheets: &[u8],
+    sizes: &[usize; HOURS],
+) -> io::Result<()>
+    requires { first + hours ≤ 18446744073709551615 }
+{
+    let mut settled = [false; HOURS];
+    print_hours(rt, first, sheets, sizes, &mut settled)?;
+    print_last(rt, &settled)
+}
+
+fn run_files<R: Env + Files + Print + Eprint>(rt: &R, first: usize)
     requires { first + hours ≤ 18446744073709551615 }
 {
     let mut sheets = [0u8; files::ROOM * HOURS];
     let mut sizes = [0usize; HOURS];
-    if !read_files(first, &mut sheets, &mut sizes) {
+    if !read_files(rt, first, &mut sheets, &mut sizes) {
         return;
     }
-    let mut told = [0u32; HOURS];
-    if print_hours(first, &sheets, &sizes, &mut told) {
-        print_last(&told);
-    } else {
-        os::fail(b"desk: the day cannot be written");
+    if let Err(why) = print_day(rt, first, &sheets, &sizes) {
+        fail(rt, "desk: the day cannot be written", why);
     }
 }
 
 // The words from `next` up to, not including, `end` name the files: a day has 24, and with fewer or more of them nothing is settled.
-pub(crate) fn run(next: usize, end: usize)
+pub(crate) fn run<R: Env + Files + Print + Eprint>(rt: &R, next: usize, end: usize)
     requires { next ≤ end }
 {
     if end - next == HOURS {
-        run_files(next);
+        run_files(rt, next);
     } else {
-        io::write_all(
-            STDERR_FILENO,
-            b"desk: a day has 24 files, one an hour in their order: desk day FILE FILE ..\n",
+        let _ = rt.eprint(
+            "desk: a day has 24 files, one an hour in their order: desk day FILE FILE ..\n",
         );
     }
 }

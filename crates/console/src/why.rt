@@ -1,168 +1,150 @@
 // Why a plant or a contract got what it got, in one sentence that can be read out on the phone: desk why SHEET plant 3.
 ghost use Rattle.std.specs.Prelude.{◌≤◌};
 
-use channels::{files, say, say_refused};
+use channels::{fail, files, say_refused};
 use input::Input;
-use libc::{STDERR_FILENO, STDOUT_FILENO};
 use reasons::{
     Ahead, ContractCase, ContractReason, ContractWhy, Group, PlantCase, PlantReason, PlantWhy,
 };
+use std::env::Env;
+use std::io;
+use std::rt::Files;
 use words::Number;
 
-// Each of these answers whether all of it was written.
-fn say_number(n: u32) -> bool {
-    io::print_decimal(STDOUT_FILENO, n as u64)
-}
-
-fn say_plant_reason(reason: PlantReason) -> bool {
+fn plant_reason(reason: PlantReason) -> &'static str {
     match reason {
-        PlantReason::Nothing => say(b" had nothing available: "),
-        PlantReason::Full => say(b" was scheduled to the full: "),
-        PlantReason::Must => say(b" ran only its must-run: "),
-        PlantReason::Last => say(b" was partly scheduled, the last one needed: "),
-        PlantReason::Beyond => say(b" was not reached: "),
+        PlantReason::Nothing => "had nothing available",
+        PlantReason::Full => "was scheduled to the full",
+        PlantReason::Must => "ran only its must-run",
+        PlantReason::Last => "was partly scheduled, the last one needed",
+        PlantReason::Beyond => "was not reached",
     }
 }
 
-fn say_plant(i: u32, k: PlantCase) -> bool {
-    let reason = k.reason;
-    say(b"Plant ")
-        & say_number(i)
-        & say_plant_reason(reason)
-        & say_number(k.scheduled)
-        & say(b" of ")
-        & say_number(k.available)
-        & say(b" kWh available, at its price of ")
-        & say_number(k.offer)
-        & say(b" centavos per kWh; the bolsa price is ")
-        & say_number(k.price)
-        & say(b".\n")
+fn say_plant<P: Print>(rt: &P, i: u32, k: PlantCase) -> io::Result<()> {
+    let reason = plant_reason(k.reason);
+    print!(rt;
+        "Plant {i} {reason}: {} of {} kWh available",
+        k.scheduled, k.available
+    )?;
+    print!(rt; ", at its price of {} centavos per kWh", k.offer)?;
+    print!(rt; "; the bolsa price is {}.\n", k.price)
 }
 
-fn say_contract_reason(reason: ContractReason) -> bool {
+fn contract_reason(reason: ContractReason) -> &'static str {
     match reason {
-        ContractReason::Fixed => say(b" is fixed"),
-        ContractReason::Needed(_) => say(b" is conditional and needed"),
-        ContractReason::Covered(_) => say(b" is conditional and not needed"),
-        ContractReason::Fits(_) => say(b" pays what is demanded, in a price group that fits"),
-        ContractReason::Shares(_) => say(b" pays what is demanded, in the price group that shares"),
-        ContractReason::Dearer(_) => say(b" pays what is demanded, in a dearer price group"),
+        ContractReason::Fixed => "is fixed",
+        ContractReason::Needed(_) => "is conditional and needed",
+        ContractReason::Covered(_) => "is conditional and not needed",
+        ContractReason::Fits(_) => "pays what is demanded, in a price group that fits",
+        ContractReason::Shares(_) => "pays what is demanded, in the price group that shares",
+        ContractReason::Dearer(_) => "pays what is demanded, in a dearer price group",
     }
 }
 
-fn say_ahead(v: Ahead, between: &[u8]) -> bool {
-    say(b", since the ")
-        & say_number(v.ahead)
-        & say(b" kWh ahead of it ")
-        & say(between)
-        & say(b" its buyer's demand of ")
-        & say_number(v.demand)
-        & say(b" kWh.\n")
+fn say_ahead<P: Print>(rt: &P, v: Ahead, between: &str) -> io::Result<()> {
+    print!(rt;
+        ", since the {} kWh ahead of it {between} its buyer's demand of {} kWh.\n",
+        v.ahead, v.demand
+    )
 }
 
-fn say_group(v: Group, before: &[u8]) -> bool {
-    say(before)
-        & say_number(v.remainder)
-        & say(b" kWh left when its group was reached, which asks for ")
-        & say_number(v.total)
-        & say(b" kWh in all.\n")
+fn say_group<P: Print>(rt: &P, v: Group, before: &str) -> io::Result<()> {
+    print!(rt;
+        ", {before} the {} kWh left when its group was reached, which asks for {} kWh in all.\n",
+        v.remainder, v.total
+    )
 }
 
 // What the reason rests on.
-fn say_ground(reason: ContractReason) -> bool {
+fn say_ground<P: Print>(rt: &P, reason: ContractReason) -> io::Result<()> {
     match reason {
-        ContractReason::Fixed => say(b", whatever the demand.\n"),
-        ContractReason::Needed(v) => say_ahead(v, b"are less than"),
-        ContractReason::Covered(v) => say_ahead(v, b"already cover"),
-        ContractReason::Fits(v) => say_group(v, b", out of the "),
-        ContractReason::Shares(v) => say_group(v, b", its share of the "),
-        ContractReason::Dearer(v) => say_group(v, b", out of the "),
+        ContractReason::Fixed => rt.print(", whatever the demand.\n"),
+        ContractReason::Needed(v) => say_ahead(rt, v, "are less than"),
+        ContractReason::Covered(v) => say_ahead(rt, v, "already cover"),
+        ContractReason::Fits(v) => say_group(rt, v, "out of"),
+        ContractReason::Shares(v) => say_group(rt, v, "its share of"),
+        ContractReason::Dearer(v) => say_group(rt, v, "out of"),
     }
 }
 
-fn say_contract(j: u32, k: ContractCase) -> bool {
+fn say_contract<P: Print>(rt: &P, j: u32, k: ContractCase) -> io::Result<()> {
     let reason = k.reason;
-    say(b"Contract ")
-        & say_number(j)
-        & say_contract_reason(reason)
-        & say(b": it is assigned ")
-        & say_number(k.amount)
-        & say(b" of ")
-        & say_number(k.quantity)
-        & say(b" kWh at ")
-        & say_number(k.price)
-        & say(b" centavos per kWh")
-        & say_ground(reason)
+    print!(rt; "Contract {j} {}: it is assigned ", contract_reason(reason))?;
+    print!(rt;
+        "{} of {} kWh at {} centavos per kWh",
+        k.amount, k.quantity, k.price
+    )?;
+    say_ground(rt, reason)
 }
 
-fn answer_plant(sheet: &[u8], i: u32) -> bool {
+fn answer_plant<P: Print>(rt: &P, sheet: &[u8], i: u32) -> io::Result<()> {
     match reasons::why_plant(sheet, i) {
-        PlantWhy::Because(k) => say_plant(i, k),
-        PlantWhy::Refused(r) => say_refused(r),
+        PlantWhy::Because(k) => say_plant(rt, i, k),
+        PlantWhy::Refused(r) => say_refused(rt, r),
     }
 }
 
-fn answer_contract(sheet: &[u8], j: u32) -> bool {
+fn answer_contract<P: Print>(rt: &P, sheet: &[u8], j: u32) -> io::Result<()> {
     match reasons::why_contract(sheet, j) {
-        ContractWhy::Because(k) => say_contract(j, k),
-        ContractWhy::Refused(r) => say_refused(r),
+        ContractWhy::Because(k) => say_contract(rt, j, k),
+        ContractWhy::Refused(r) => say_refused(rt, r),
     }
 }
 
-fn answer_of(sheet: &[u8], plant: bool, i: u32) -> bool {
+fn answer_of<P: Print>(rt: &P, sheet: &[u8], plant: bool, i: u32) -> io::Result<()> {
     if plant {
-        answer_plant(sheet, i)
+        answer_plant(rt, sheet, i)
     } else {
-        answer_contract(sheet, i)
+        answer_contract(rt, sheet, i)
     }
 }
 
 // Of the sheet that word `from` names.
-fn answer(from: usize, plant: bool, i: u32) {
+fn answer<R: Env + Files + Print + Eprint>(rt: &R, from: usize, plant: bool, i: u32) {
     let mut sheet = [0u8; files::ROOM];
-    let got = files::read_named(from, &mut sheet);
+    let got = files::read_named(rt, from, &mut sheet);
     let Input::Bytes(n) = got else {
         return;
     };
-    if !answer_of(&sheet[..n], plant, i) {
-        os::fail(b"desk: the answer cannot be written");
+    if let Err(why) = answer_of(rt, &sheet[..n], plant, i) {
+        fail(rt, "desk: the answer cannot be written", why);
     }
 }
 
-fn say_usage() {
-    io::write_all(
-        STDERR_FILENO,
-        b"desk: why takes a sheet, plant or contract, and its number: desk why SHEET plant 3\n",
+fn say_usage<E: Eprint>(rt: &E) {
+    let _ = rt.eprint(
+        "desk: why takes a sheet, plant or contract, and its number: desk why SHEET plant 3\n",
     );
 }
 
 // Word `from` names the sheet, word `of` is `plant` or `contract`, word `which` its number.
-fn ask(from: usize, of: usize, which: usize) {
+fn ask<R: Env + Files + Print + Eprint>(rt: &R, from: usize, of: usize, which: usize) {
     let mut kind = [0u8; 16];
-    let n = os::arg(of, &mut kind);
+    let n = words::word(rt, of, &mut kind);
     let mut digits = [0u8; 16];
-    let m = os::arg(which, &mut digits);
+    let m = words::word(rt, which, &mut digits);
     let plant = words::is_same(&kind[..n], b"plant");
     let contract = words::is_same(&kind[..n], b"contract");
     let number = words::number_of(&digits[..m]);
     let Number::Is(i) = number else {
-        say_usage();
+        say_usage(rt);
         return;
     };
     if plant | contract {
-        answer(from, plant, i);
+        answer(rt, from, plant, i);
     } else {
-        say_usage();
+        say_usage(rt);
     }
 }
 
 // The words behind `why` are those from `next` up to, not including, `end`.
-pub(crate) fn run(next: usize, end: usize)
+pub(crate) fn run<R: Env + Files + Print + Eprint>(rt: &R, next: usize, end: usize)
     requires { next ≤ end }
 {
     if end - next == 3 {
-        ask(next, next + 1, next + 2);
+        ask(rt, next, next + 1, next + 2);
     } else {
-        say_usage();
+        say_usage(rt);
     }
 }

@@ -11,10 +11,11 @@ use day::{AMOUNTS, FIGURES, HOURS, MONEY, SCHEDULE};
 use hour::Summary;
 use input::Input;
 use input::cases::Next;
-use libc::{STDERR_FILENO, STDOUT_FILENO};
 use limits::{Agent, Contract, Plant};
 use printing::Printed;
 use sheet::{Counts, Reading};
+use std::io;
+use std::io::Read;
 
 // What stands in the lent lists before, so that a write can be seen.
 const CELL: u32 = 2779096485;
@@ -25,10 +26,10 @@ const OWED: i64 = 6510615555426900570;
 const MOST_DAYS: u64 = 1000000;
 
 // The next number as a count, at most so many.
-fn next_size(most: usize) -> usize
+fn next_size<R: Read>(from: &mut R, most: usize) -> usize
     ensures { result ≤ most }
 {
-    let piece = input::cases::next_number();
+    let piece = input::cases::next_number(from);
     let Next::Number(x) = piece else {
         return 0;
     };
@@ -36,17 +37,8 @@ fn next_size(most: usize) -> usize
     if most < n { most } else { n }
 }
 
-fn say(text: &[u8]) {
-    io::write_all(STDOUT_FILENO, text);
-}
-
-fn print_number(n: u32) {
-    say(b" ");
-    io::print_decimal(STDOUT_FILENO, n as u64);
-}
-
 // A number with its sign, as the last of an agent's line on a page: behind `hour 0 0 0`, a line end and `0 1 0 0 0 0 0 `.
-fn print_owed(x: i64) {
+fn print_owed<P: Print>(rt: &P, x: i64) -> io::Result<()> {
     let none = Summary {
         number: 0,
         place: 0,
@@ -60,15 +52,16 @@ fn print_owed(x: i64) {
     let mut text = [0u8; 64];
     let printed = printing::print(none, &kinds, &figures, &money, &mut text);
     let Printed::Done(n) = printed else {
-        return;
+        return Ok(());
     };
     if n <= 64 {
         if 26 < n {
             let e = n - 1;
-            say(b" ");
-            say(&text[25..e]);
+            rt.print(" ")?;
+            rt.write_all(&text[25..e])?;
         }
     }
+    Ok(())
 }
 
 // Cell k of a list, and as it was before the call past the end.
@@ -81,47 +74,41 @@ fn owed(list: &[i64], k: usize) -> i64 {
 }
 
 // n cells from a on.
-fn print_cells(list: &[u32], a: usize, n: usize)
+fn print_cells<P: Print>(rt: &P, list: &[u32], a: usize, n: usize) -> io::Result<()>
     requires { (a ≤ 1000000) × (n ≤ 1000000) }
 {
-    let mut i = 0;
-    while i < n {
-        print_number(cell(list, a + i));
-        i += 1;
+    for i in 0..n {
+        print!(rt; " {}", cell(list, a + i))?;
     }
-    say(b"\n");
+    rt.print("\n")
 }
 
-fn print_money(list: &[i64], a: usize, n: usize)
+fn print_money<P: Print>(rt: &P, list: &[i64], a: usize, n: usize) -> io::Result<()>
     requires { (a ≤ 1000000) × (n ≤ 1000000) }
 {
-    let mut i = 0;
-    while i < n {
-        print_owed(owed(list, a + i));
-        i += 1;
+    for i in 0..n {
+        print_owed(rt, owed(list, a + i))?;
     }
-    say(b"\n");
+    rt.print("\n")
 }
 
 // Whether the cells from a to e were not written.
 fn cells_kept(list: &[u32], a: usize, e: usize) -> bool {
-    let mut kept = true;
-    let mut k = a;
-    while k < e {
-        kept = kept & (cell(list, k) == CELL);
-        k += 1;
+    for k in a..e {
+        if cell(list, k) != CELL {
+            return false;
+        }
     }
-    kept
+    true
 }
 
 fn money_kept(list: &[i64], a: usize, e: usize) -> bool {
-    let mut kept = true;
-    let mut k = a;
-    while k < e {
-        kept = kept & (owed(list, k) == OWED);
-        k += 1;
+    for k in a..e {
+        if owed(list, k) != OWED {
+            return false;
+        }
     }
-    kept
+    true
 }
 
 // The counts of a sheet's rows, 0 where it is refused.
@@ -162,7 +149,8 @@ fn stretch(bytes: &[u8], a: usize, n: usize) -> &[u8] {
 }
 
 // The cells of an hour's parts that its n agents, p plants and q contracts ask for.
-fn print_parts(
+fn print_parts<P: Print>(
+    rt: &P,
     h: usize,
     n: usize,
     p: usize,
@@ -171,17 +159,17 @@ fn print_parts(
     money: &[i64],
     schedule: &[u32],
     amounts: &[u32],
-)
+) -> io::Result<()>
     requires { (h ≤ hours) × (n ≤ most_agents) × (p ≤ most_plants) × (q ≤ most_contracts) }
 {
-    say(b"figures");
-    print_cells(figures, FIGURES * h, Agent::CELLS * n);
-    say(b"money");
-    print_money(money, MONEY * h, n);
-    say(b"schedule");
-    print_cells(schedule, SCHEDULE * h, p);
-    say(b"amounts");
-    print_cells(amounts, AMOUNTS * h, q);
+    rt.print("figures")?;
+    print_cells(rt, figures, FIGURES * h, Agent::CELLS * n)?;
+    rt.print("money")?;
+    print_money(rt, money, MONEY * h, n)?;
+    rt.print("schedule")?;
+    print_cells(rt, schedule, SCHEDULE * h, p)?;
+    rt.print("amounts")?;
+    print_cells(rt, amounts, AMOUNTS * h, q)
 }
 
 // Whether all else in the parts is as it was.
@@ -208,11 +196,17 @@ fn parts_kept(
     f & m & s & t
 }
 
-fn say_written() {
-    say(b"written where nothing was to be\n");
+// A line that no expected answer has, unless the lists were kept.
+fn tell_unless<P: Print>(rt: &P, kept: bool) -> io::Result<()> {
+    if kept {
+        Ok(())
+    } else {
+        rt.print("written where nothing was to be\n")
+    }
 }
 
-fn print_hour(
+fn print_hour<P: Print>(
+    rt: &P,
     h: usize,
     sheet: &[u8],
     summaries: &[u32],
@@ -220,22 +214,21 @@ fn print_hour(
     money: &[i64],
     schedule: &[u32],
     amounts: &[u32],
-)
+) -> io::Result<()>
     requires { h ≤ hours }
 {
-    io::print_decimal(STDOUT_FILENO, h as u64);
-    print_cells(summaries, 5 * h, 5);
+    rt.print(h)?;
+    print_cells(rt, summaries, 5 * h, 5)?;
     let settled = cell(summaries, 5 * h) == 0;
     let c = counts(sheet);
     let n = needed(settled, c.agents, Agent::MOST);
     let p = needed(settled, c.plants, Plant::MOST);
     let q = needed(settled, c.contracts, Contract::MOST);
     if settled {
-        print_parts(h, n, p, q, figures, money, schedule, amounts);
+        print_parts(rt, h, n, p, q, figures, money, schedule, amounts)?;
     }
-    if !parts_kept(h, n, p, q, figures, money, schedule, amounts) {
-        say_written();
-    }
+    let kept = parts_kept(h, n, p, q, figures, money, schedule, amounts);
+    tell_unless(rt, kept)
 }
 
 fn size(length: u32) -> usize {
@@ -251,7 +244,8 @@ fn plus(a: usize, b: usize) -> usize {
     0
 }
 
-fn print_hours(
+fn print_hours<P: Print>(
+    rt: &P,
     lengths: &[u32; HOURS],
     sheets: &[u8],
     summaries: &[u32],
@@ -259,23 +253,15 @@ fn print_hours(
     money: &[i64],
     schedule: &[u32],
     amounts: &[u32],
-) {
+) -> io::Result<()> {
     let mut start = 0;
-    let mut h = 0;
-    while h < HOURS {
+    for h in 0..HOURS {
         let n = size(lengths[h]);
-        print_hour(
-            h,
-            stretch(sheets, start, n),
-            summaries,
-            figures,
-            money,
-            schedule,
-            amounts,
-        );
+        let sheet = stretch(sheets, start, n);
+        print_hour(rt, h, sheet, summaries, figures, money, schedule, amounts)?;
         start = plus(start, n);
-        h += 1;
     }
+    Ok(())
 }
 
 // Whether nothing was written behind the parts of 24 hours.
@@ -288,18 +274,20 @@ fn rest_kept(figures: &[u32], money: &[i64], schedule: &[u32], amounts: &[u32]) 
 }
 
 // Settles one day into the fronts of these lists, as long as the input says, and prints the answer.
-fn settle_and_print(
+fn settle_and_print<P: Print, R: Read>(
+    rt: &P,
+    from: &mut R,
     lengths: &[u32; HOURS],
     sheets: &[u8],
     figures: &mut [u32],
     money: &mut [i64],
     schedule: &mut [u32],
     amounts: &mut [u32],
-) {
-    let f = next_size(figures.len());
-    let m = next_size(money.len());
-    let s = next_size(schedule.len());
-    let t = next_size(amounts.len());
+) -> io::Result<()> {
+    let f = next_size(from, figures.len());
+    let m = next_size(from, money.len());
+    let s = next_size(from, schedule.len());
+    let t = next_size(from, amounts.len());
     let mut summaries = [CELL; 120];
     capi::whole_day::naomhral_day(
         sheets,
@@ -311,57 +299,67 @@ fn settle_and_print(
         &mut summaries,
     );
     print_hours(
-        lengths, sheets, &summaries, figures, money, schedule, amounts,
-    );
-    if !rest_kept(figures, money, schedule, amounts) {
-        say_written();
-    }
+        rt, lengths, sheets, &summaries, figures, money, schedule, amounts,
+    )?;
+    let kept = rest_kept(figures, money, schedule, amounts);
+    tell_unless(rt, kept)
 }
 
-fn run_day(number: u64, lengths: &[u32; HOURS], sheets: &[u8]) {
+fn run_day<P: Print, R: Read>(
+    rt: &P,
+    from: &mut R,
+    number: u64,
+    lengths: &[u32; HOURS],
+    sheets: &[u8],
+) -> io::Result<()> {
     let mut figures = [CELL; 10240];
     let mut money = [OWED; 2048];
     let mut schedule = [CELL; 2048];
     let mut amounts = [CELL; 8192];
-    say(b"day ");
-    io::print_decimal(STDOUT_FILENO, number);
-    say(b"\n");
+    print!(rt; "day {number}\n")?;
     settle_and_print(
+        rt,
+        from,
         lengths,
         sheets,
         &mut figures,
         &mut money,
         &mut schedule,
         &mut amounts,
-    );
+    )
 }
 
 // The next day; false where the input ended.
-fn next_day(number: u64, buf: &mut [u8]) -> bool {
+fn next_day<P: Print + Eprint, R: Read>(
+    rt: &P,
+    from: &mut R,
+    number: u64,
+    buf: &mut [u8],
+) -> io::Result<bool> {
     let mut lengths = [0u32; HOURS];
-    if !input::cases::read_numbers(&mut lengths) {
-        return false;
+    if !input::cases::read_numbers(from, &mut lengths) {
+        return Ok(false);
     }
-    let n = next_size(buf.len());
-    let got = input::read_all(&mut buf[..n]);
+    let n = next_size(from, buf.len());
+    let got = input::read_all(from, &mut buf[..n]);
     let Input::Bytes(k) = got else {
-        return false;
+        return Ok(false);
     };
     if k < n {
-        io::write_all(STDERR_FILENO, b"day_vectors: the input ends within a day\n");
-        return false;
+        let _ = rt.eprint("day_vectors: the input ends within a day\n");
+        return Ok(false);
     }
-    run_day(number, &lengths, &buf[..n]);
-    true
+    run_day(rt, from, number, &lengths, &buf[..n])?;
+    Ok(true)
 }
 
-fn main() {
-    let mut buf = io::large_buffer();
-    let mut number: u64 = 0;
-    while number < MOST_DAYS {
-        if !next_day(number, &mut buf) {
-            return;
+fn main(rt: HostRuntime) -> io::Result<()> {
+    let mut buf = [0u8; 65536];
+    let mut from = rt.reader();
+    for number in 0..MOST_DAYS {
+        if !next_day(&rt, &mut from, number, &mut buf)? {
+            break;
         }
-        number += 1;
     }
+    Ok(())
 }

@@ -1,6 +1,6 @@
 // The desk program: crate `console` has what it does, so that other programs can run the same on other inputs.
 #![tactic(auto)]
 
-fn main() {
-    console::run();
+fn main(rt: HostRuntime) {
+    console::run(&rt);
 }

@@ -4,69 +4,71 @@
 // or that there is no such file.
 #![tactic(auto)]
 
-use channels::say;
+use channels::{files, say};
+use input::Input;
+use std::env::Env;
+use std::io;
+use std::rt::Files;
 
-fn is_word(i: usize, text: &[u8]) -> bool {
+fn is_word<E: Env>(rt: &E, i: usize, text: &[u8]) -> bool {
     let mut word = [0u8; 16];
-    let n = os::arg(i, &mut word);
+    let n = words::word(rt, i, &mut word);
     words::is_same(&word[..n], text)
 }
 
-fn say_word(i: usize) {
-    let mut word = io::buffer();
-    let n = os::arg(i, &mut word);
-    say(b" ");
-    say(&word[..n]);
+fn say_word<R: Env + Print>(rt: &R, i: usize) -> io::Result<()> {
+    let mut word = [0u8; files::NAME];
+    let n = words::word(rt, i, &mut word);
+    say(rt, b" ")?;
+    say(rt, &word[..n])
 }
 
-fn say_heading(first: usize, end: usize) {
-    say(b"==");
-    let mut i = first;
-    while i < end {
-        say_word(i);
-        i += 1;
+fn say_heading<R: Env + Print>(rt: &R, first: usize, end: usize) -> io::Result<()> {
+    say(rt, b"==")?;
+    for i in first..end {
+        say_word(rt, i)?;
     }
-    say(b"\n");
+    say(rt, b"\n")
 }
 
-// The file that word i names.
-fn show(i: usize) {
-    let mut path = io::buffer();
-    let n = os::arg(i, &mut path);
-    let file = os::open_read(&path[..n]);
-    if file < 0 {
-        say(b"no file\n");
-        return;
+// The file that word i names: its first 4096 bytes.
+fn show<R: Env + Files + Print>(rt: &R, i: usize) -> io::Result<()> {
+    let mut path = [0u8; files::NAME];
+    let n = words::word(rt, i, &mut path);
+    let mut bytes = [0u8; 4096];
+    match input::read_file(rt, &path[..n], &mut bytes) {
+        Input::Bytes(m) => {
+            say(rt, &bytes[..m])?;
+            say(rt, b"\n")
+        }
+        Input::Failed(_) => say(rt, b"no file\n"),
     }
-    let mut bytes = io::buffer();
-    let m = io::read_full(file, &mut bytes);
-    libc::close(file);
-    say(&bytes[..m]);
-    say(b"\n");
 }
 
 // The command that the words from `first` up to, not including, `end` are.
-fn run_command(first: usize, end: usize) {
-    say_heading(first, end);
+fn run_command<R: Env + Files + io::Input + Print + Eprint>(
+    rt: &R,
+    first: usize,
+    end: usize,
+) -> io::Result<()> {
+    say_heading(rt, first, end)?;
     if first < end {
-        if is_word(first, b"show") {
-            show(first + 1);
-            return;
+        if is_word(rt, first, b"show") {
+            return show(rt, first + 1);
         }
     }
-    console::run_words(first, end);
+    console::run_words(rt, first, end);
+    Ok(())
 }
 
-fn main() {
-    let all = os::arg_count();
+fn main(rt: HostRuntime) -> io::Result<()> {
+    let all = words::count(&rt);
     let mut first = 1;
-    let mut i = 1;
-    while i < all {
-        if is_word(i, b"+") {
-            run_command(first, i);
+    for i in 1..all {
+        if is_word(&rt, i, b"+") {
+            run_command(&rt, first, i)?;
             first = i + 1;
         }
-        i += 1;
     }
-    run_command(first, all);
+    run_command(&rt, first, all)
 }

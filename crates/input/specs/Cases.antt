@@ -7,7 +7,7 @@ abbrev pub CaseWithin : Case → ℕ → Type 0
 CaseWithin (Case.Sheet n) size = n ≤ size
 CaseWithin Case.End size = 0 ≤ size
 CaseWithin Case.Cut size = 0 ≤ size
-CaseWithin Case.Failed size = 0 ≤ size
+CaseWithin (Case.Failed why) size = 0 ≤ size
 
 abbrev pub GotWithin : Got → ℕ → Type 0
 GotWithin (Got.Cells n) size = n ≤ size

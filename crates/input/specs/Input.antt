@@ -4,4 +4,4 @@ use Rattle.input.specs.declared.Input.{Input}
 
 abbrev pub Within : Input → ℕ → Type 0
 Within (Input.Bytes n) size = n ≤ size
-Within Input.Failed size = 0 ≤ size
+Within (Input.Failed why) size = 0 ≤ size

@@ -3,24 +3,24 @@ ghost use Rattle.std.specs.Prelude.{◌≡◌, ◌<◌, length};
 ghost use Rattle.input.specs.Cases.{CaseWithin, GotWithin};
 
 use crate::Input;
-use libc::STDERR_FILENO;
+use std::io::{Error, Read};
 
-// The next number; or that the input ends before it, or within it, or that a read failed.
+// The next number; or that the input ends before it, or within it, or why a read failed.
 #[derive(Clone, Copy)]
 pub enum Next {
     Number(u32),
     End,
     Cut,
-    Failed,
+    Failed(Error),
 }
 
-// The next case: a sheet of so many bytes; or that the input ends before it, or within it, or that a read failed.
+// The next case: a sheet of so many bytes; or that the input ends before it, or within it, or why a read failed.
 #[derive(Clone, Copy)]
 pub enum Case {
     Sheet(usize),
     End,
     Cut,
-    Failed,
+    Failed(Error),
 }
 
 // How many cells of a list were read, or that the input ended within them or they are too many.
@@ -36,11 +36,12 @@ fn wide(x: u8) -> u32
     x as u32
 }
 
-pub fn next_number() -> Next {
+pub fn next_number<R: Read>(from: &mut R) -> Next {
     let mut head = [0u8; 4];
-    let got = crate::read_all(&mut head);
-    let Input::Bytes(k) = got else {
-        return Next::Failed;
+    let got = crate::read_all(from, &mut head);
+    let k = match got {
+        Input::Bytes(k) => k,
+        Input::Failed(why) => return Next::Failed(why),
     };
     if k == 0 {
         return Next::End;
@@ -54,24 +55,21 @@ pub fn next_number() -> Next {
 }
 
 // A number for each cell; false where the input ends within them.
-pub fn read_numbers(out: &mut [u32]) -> bool {
-    let mut i = 0;
-    while i < out.len() {
-        let piece = next_number();
-        let Next::Number(x) = piece else {
+pub fn read_numbers<R: Read>(from: &mut R, out: &mut [u32]) -> bool {
+    for cell in out.iter_mut() {
+        let Next::Number(x) = next_number(from) else {
             return false;
         };
-        out[i] = x;
-        i += 1;
+        *cell = x;
     }
     true
 }
 
 // A list is a count and that many numbers.
-pub fn read_list(out: &mut [u32]) -> Got
+pub fn read_list<R: Read>(from: &mut R, out: &mut [u32]) -> Got
     ensures { GotWithin result (length out.new) }
 {
-    let head = next_number();
+    let head = next_number(from);
     let Next::Number(count) = head else {
         return Got::Cut;
     };
@@ -79,7 +77,7 @@ pub fn read_list(out: &mut [u32]) -> Got
     if out.len() < n {
         return Got::Cut;
     }
-    if read_numbers(&mut out[..n]) {
+    if read_numbers(from, &mut out[..n]) {
         Got::Cells(n)
     } else {
         Got::Cut
@@ -87,43 +85,37 @@ pub fn read_list(out: &mut [u32]) -> Got
 }
 
 // The bytes of a case whose length is known; one that is longer than the buffer counts as cut.
-fn read_sheet(buf: &mut [u8], n: usize) -> Case
+fn read_sheet<R: Read>(from: &mut R, buf: &mut [u8], n: usize) -> Case
     ensures { CaseWithin result (length buf.new) }
 {
     if buf.len() < n {
         return Case::Cut;
     }
-    let got = crate::read_all(&mut buf[..n]);
-    let Input::Bytes(k) = got else {
-        return Case::Failed;
+    let got = crate::read_all(from, &mut buf[..n]);
+    let k = match got {
+        Input::Bytes(k) => k,
+        Input::Failed(why) => return Case::Failed(why),
     };
     if k < n { Case::Cut } else { Case::Sheet(n) }
 }
 
 // A case is a length and that many bytes.
-pub fn read_case(buf: &mut [u8]) -> Case
+pub fn read_case<R: Read>(from: &mut R, buf: &mut [u8]) -> Case
     ensures { CaseWithin result (length buf.new) }
 {
-    match next_number() {
-        Next::Number(n) => read_sheet(buf, n as usize),
+    match next_number(from) {
+        Next::Number(n) => read_sheet(from, buf, n as usize),
         Next::End => Case::End,
         Next::Cut => Case::Cut,
-        Next::Failed => Case::Failed,
+        Next::Failed(why) => Case::Failed(why),
     }
 }
 
 // Tells on standard error why there is no further case, unless the input just ended.
-pub fn complain(case: Case) {
-    match case {
-        Case::Cut => {
-            io::write_all(
-                STDERR_FILENO,
-                b"the input ends within a case, or a case is too long\n",
-            );
-        }
-        Case::Failed => {
-            io::write_all(STDERR_FILENO, b"the input cannot be read\n");
-        }
-        _ => {}
-    }
+pub fn complain<E: Eprint>(rt: &E, case: Case) {
+    let _ = match case {
+        Case::Cut => rt.eprint("the input ends within a case, or a case is too long\n"),
+        Case::Failed(_) => rt.eprint("the input cannot be read\n"),
+        _ => Ok(()),
+    };
 }

@@ -4,28 +4,30 @@
 ghost use Rattle.std.specs.Prelude.{length};
 ghost use Rattle.input.specs.Input.{Within};
 
-use libc::STDIN_FILENO;
+use std::io::{Error, ErrorKind, Read};
+use std::rt::Files;
+use std::{fs, str};
 
 pub mod cases;
 
-// How many bytes of the buffer the input has filled, or that a read failed.
+// How many bytes of the buffer the input has filled, or why a read failed.
 #[derive(Clone, Copy)]
 pub enum Input {
     Bytes(usize),
-    Failed,
+    Failed(Error),
 }
 
-// Reads from a descriptor, piece by piece, until the input ends or the buffer is full.
-fn read_from(descriptor: i32, buf: &mut [u8]) -> Input
+// What an open input holds, piece by piece, until it ends or the buffer is full.
+pub fn read_all<R: Read>(from: &mut R, buf: &mut [u8]) -> Input
     ensures { Within result (length buf.new) }
 {
     let mut n = 0;
     while n < buf.len() {
-        let got = libc::read(descriptor, &mut buf[n..]);
-        if got < 0 {
-            return Input::Failed;
-        }
-        let more = io::count(got, &buf[n..]);
+        let got = from.read(&mut buf[n..]);
+        let more = match got {
+            Ok(more) => more,
+            Err(why) => return Input::Failed(why),
+        };
         if more == 0 {
             return Input::Bytes(n);
         }
@@ -34,22 +36,15 @@ fn read_from(descriptor: i32, buf: &mut [u8]) -> Input
     Input::Bytes(n)
 }
 
-// Standard input, until it ends or the buffer is full.
-pub fn read_all(buf: &mut [u8]) -> Input
-    ensures { Within result (length buf.new) }
-{
-    read_from(STDIN_FILENO, buf)
-}
-
 // The file of that name, until it ends or the buffer is full.
-pub fn read_file(path: &[u8], buf: &mut [u8]) -> Input
+pub fn read_file<R: Files>(rt: &R, path: &[u8], buf: &mut [u8]) -> Input
     ensures { Within result (length buf.new) }
 {
-    let descriptor = os::open_read(path);
-    if descriptor < 0 {
-        return Input::Failed;
+    let Ok(name) = str::from_utf8(path) else {
+        return Input::Failed(Error::from(ErrorKind::InvalidFilename));
+    };
+    match fs::open(rt, name) {
+        Ok(mut file) => read_all(&mut file, buf),
+        Err(why) => Input::Failed(why),
     }
-    let got = read_from(descriptor, buf);
-    libc::close(descriptor);
-    got
 }

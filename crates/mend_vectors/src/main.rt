@@ -7,28 +7,13 @@
 ghost use Rattle.std.specs.Prelude.{◌≤◌, ◌<◌};
 
 use input::cases::{Case, Next};
-use libc::STDOUT_FILENO;
+use std::io;
+use std::io::Read;
 
 // What stands in the lent lists before, so that a write can be seen.
 const BYTE: u8 = 165;
 
 const CELL: u32 = 2779096485;
-
-fn say(text: &[u8]) {
-    io::write_all(STDOUT_FILENO, text);
-}
-
-fn print_number(n: u64) {
-    io::print_decimal(STDOUT_FILENO, n);
-}
-
-fn print_refused(number: u32, place: u32) {
-    say(b"refused ");
-    print_number(number as u64);
-    say(b" ");
-    print_number(place as u64);
-    say(b"\n");
-}
 
 fn wide(x: u8) -> u32 {
     x as u32
@@ -106,124 +91,144 @@ fn as_reported(s: &[u8], copy: &[u8], report: &[u32], n: usize) -> bool {
     i == n
 }
 
-fn print_change(report: &[u32], i: usize) {
-    print_number(figure(report, i, 0) as u64);
-    say(b" ");
-    print_number(figure(report, i, 1) as u64);
-    say(b" ");
-    print_number(figure(report, i, 2) as u64);
-    say(b"\n");
+fn print_change<P: Print>(rt: &P, report: &[u32], i: usize) -> io::Result<()> {
+    let place = figure(report, i, 0);
+    let old = figure(report, i, 1);
+    let new = figure(report, i, 2);
+    print!(rt; "{place} {old} {new}\n")
 }
 
-fn print_changes(report: &[u32], n: usize) {
+fn print_changes<P: Print>(rt: &P, report: &[u32], n: usize) -> io::Result<()> {
     for i in 0..n {
-        print_change(report, i);
+        print_change(rt, report, i)?;
     }
+    Ok(())
 }
 
-fn print_mended(s: &[u8], copy: &[u8], report: &[u32], changes: u32) {
+// A line that no expected answer has, where something does not hold.
+fn tell_unless<P: Print>(rt: &P, holds: bool, line: &str) -> io::Result<()> {
+    if holds { Ok(()) } else { rt.print(line) }
+}
+
+fn print_mended<P: Print>(
+    rt: &P,
+    s: &[u8],
+    copy: &[u8],
+    report: &[u32],
+    changes: u32,
+) -> io::Result<()> {
     let n = changes as usize;
-    say(b"mended ");
-    print_number(n as u64);
-    say(b"\n");
-    print_changes(report, n);
-    if !as_reported(s, copy, report, n) {
-        say(b"the copy is not the sheet with these changes\n");
-    }
-    if !(bytes_kept(copy, s.len()) & cells_kept(report, cells(report, n))) {
-        say(b"more was written than was needed\n");
-    }
+    print!(rt; "mended {n}\n")?;
+    print_changes(rt, report, n)?;
+    let told = as_reported(s, copy, report, n);
+    tell_unless(rt, told, "the copy is not the sheet with these changes\n")?;
+    let kept = bytes_kept(copy, s.len()) & cells_kept(report, cells(report, n));
+    tell_unless(rt, kept, "more was written than was needed\n")
 }
 
-fn print_refusal(number: u32, place: u32, copy: &[u8], report: &[u32]) {
-    print_refused(number, place);
-    if !(bytes_kept(copy, 0) & cells_kept(report, 0)) {
-        say(b"a refusal has written\n");
-    }
+fn print_refusal<P: Print>(
+    rt: &P,
+    number: u32,
+    place: u32,
+    copy: &[u8],
+    report: &[u32],
+) -> io::Result<()> {
+    print!(rt; "refused {number} {place}\n")?;
+    let kept = bytes_kept(copy, 0) & cells_kept(report, 0);
+    tell_unless(rt, kept, "a refusal has written\n")
 }
 
-fn print_case(case: u64, s: &[u8], copy: &mut [u8], report: &mut [u32]) {
-    say(b"case ");
-    print_number(case);
-    say(b"\n");
+fn print_case<P: Print>(
+    rt: &P,
+    case: u64,
+    s: &[u8],
+    copy: &mut [u8],
+    report: &mut [u32],
+) -> io::Result<()> {
+    print!(rt; "case {case}\n")?;
     let mut answer = [0u32; 3];
     let number = capi::mending::naomhral_mend(s, copy, report, &mut answer);
     if number == 0 {
-        print_mended(s, copy, report, answer[2]);
+        print_mended(rt, s, copy, report, answer[2])?;
     } else {
-        print_refusal(answer[0], answer[1], copy, report);
+        print_refusal(rt, answer[0], answer[1], copy, report)?;
     }
-    if number != answer[0] {
-        say(b"the number returned is not the answer's\n");
-    }
+    let same = number == answer[0];
+    tell_unless(rt, same, "the number returned is not the answer's\n")
 }
 
 // Lends just the room that the case says, and says whether there is so much.
-fn lend_front(
+fn lend_front<P: Print + Eprint>(
+    rt: &P,
     case: u64,
     s: &[u8],
     copy: &mut [u8],
     bytes: usize,
     report: &mut [u32],
     cells: usize,
-) -> bool {
+) -> io::Result<bool> {
     if copy.len() < bytes {
-        input::cases::complain(Case::Cut);
-        return false;
+        input::cases::complain(rt, Case::Cut);
+        return Ok(false);
     }
     if report.len() < cells {
-        input::cases::complain(Case::Cut);
-        return false;
+        input::cases::complain(rt, Case::Cut);
+        return Ok(false);
     }
-    print_case(case, s, &mut copy[..bytes], &mut report[..cells]);
-    true
+    print_case(rt, case, s, &mut copy[..bytes], &mut report[..cells])?;
+    Ok(true)
 }
 
 // The room of the copy in bytes, and that of the report in changes.
-fn lend(case: u64, s: &[u8], bytes: usize, changes: u32) -> bool {
+fn lend<P: Print + Eprint>(
+    rt: &P,
+    case: u64,
+    s: &[u8],
+    bytes: usize,
+    changes: u32,
+) -> io::Result<bool> {
     let mut copy = [BYTE; 16384];
     let mut report = [CELL; 6144];
-    lend_front(
-        case,
-        s,
-        &mut copy,
-        bytes,
-        &mut report,
-        3 * (changes as usize),
-    )
+    let cells = 3 * (changes as usize);
+    lend_front(rt, case, s, &mut copy, bytes, &mut report, cells)
 }
 
 // The room of copy and report, behind the sheet; and whether to go on.
-fn run_rooms(case: u64, s: &[u8]) -> bool {
-    let first = input::cases::next_number();
+fn run_rooms<P: Print + Eprint, R: Read>(
+    rt: &P,
+    from: &mut R,
+    case: u64,
+    s: &[u8],
+) -> io::Result<bool> {
+    let first = input::cases::next_number(from);
     let Next::Number(bytes) = first else {
-        input::cases::complain(Case::Cut);
-        return false;
+        input::cases::complain(rt, Case::Cut);
+        return Ok(false);
     };
-    let second = input::cases::next_number();
+    let second = input::cases::next_number(from);
     let Next::Number(changes) = second else {
-        input::cases::complain(Case::Cut);
-        return false;
+        input::cases::complain(rt, Case::Cut);
+        return Ok(false);
     };
-    lend(case, s, bytes as usize, changes)
+    lend(rt, case, s, bytes as usize, changes)
 }
 
-fn run_case(case: u64) -> bool {
+fn run_case<P: Print + Eprint, R: Read>(rt: &P, from: &mut R, case: u64) -> io::Result<bool> {
     let mut buf = [0u8; 16384];
-    let sheet = input::cases::read_case(&mut buf);
+    let sheet = input::cases::read_case(from, &mut buf);
     let Case::Sheet(n) = sheet else {
-        input::cases::complain(sheet);
-        return false;
+        input::cases::complain(rt, sheet);
+        return Ok(false);
     };
-    run_rooms(case, &buf[..n])
+    run_rooms(rt, from, case, &buf[..n])
 }
 
-fn main() {
-    let mut case: u64 = 0;
-    while case < 1000000 {
-        if !run_case(case) {
-            return;
+fn main(rt: HostRuntime) -> io::Result<()> {
+    let mut from = rt.reader();
+    for case in 0..1000000u64 {
+        if !run_case(&rt, &mut from, case)? {
+            break;
         }
-        case += 1;
     }
+    Ok(())
 }

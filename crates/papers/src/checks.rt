@@ -1,25 +1,29 @@
 // `desk check SHEET STATEMENT`: whether the administrator's statement of an hour could be right, and where it differs from ours.
 use crate::{differences, faults, meanings};
-use channels::{files, front, say, say_refused};
+use channels::{fail, files, front, say, say_refused};
 use input::Input;
 use limits::{Agent, Contract, Plant};
 use refusals::{Refusal, Verdict};
 use sheet::{Counts, Reading};
 use stating::Statement;
+use std::env::Env;
+use std::io;
+use std::rt::Files;
 
-fn say_why(why: Refusal) -> bool {
-    say_refused(why) & meanings::say_meaning(why.number)
+fn say_why<P: Print>(rt: &P, why: Refusal) -> io::Result<()> {
+    say_refused(rt, why)?;
+    meanings::say_meaning(rt, why.number)
 }
 
-fn say_verdict(v: Verdict) -> bool {
+fn say_verdict<P: Print>(rt: &P, v: Verdict) -> io::Result<()> {
     match v {
-        Verdict::Fine => say(b"accepted\n"),
-        Verdict::Refused(why) => say_why(why),
+        Verdict::Fine => say(rt, b"accepted\n"),
+        Verdict::Refused(why) => say_why(rt, why),
     }
 }
 
 // Of a sheet that is accepted, with these counts.
-fn check_text(sheet: &[u8], c: Counts, text: &[u8]) -> bool {
+fn check_text<P: Print>(rt: &P, sheet: &[u8], c: Counts, text: &[u8]) -> io::Result<()> {
     let mut figures = [0u32; Agent::CELLS * Agent::MOST];
     let mut money = [0i64; Agent::MOST];
     let mut schedule = [0u32; Plant::MOST];
@@ -33,35 +37,35 @@ fn check_text(sheet: &[u8], c: Counts, text: &[u8]) -> bool {
         &mut amounts,
     );
     match stated {
-        Statement::Wrong(line, f) => faults::say_wrong(line, f, true),
+        Statement::Wrong(line, f) => faults::say_wrong(rt, line, f, true),
         Statement::Price(price) => {
             let v = checking::check(sheet, price, &figures, &money, &schedule, &amounts);
-            say_verdict(v)
-                & differences::say_all(sheet, price, &figures, &money, &schedule, &amounts)
+            say_verdict(rt, v)?;
+            differences::say_all(rt, sheet, price, &figures, &money, &schedule, &amounts)
         }
     }
 }
 
-fn check_sheet(sheet: &[u8], text: &[u8]) -> bool {
+fn check_sheet<P: Print>(rt: &P, sheet: &[u8], text: &[u8]) -> io::Result<()> {
     match sheet::read(sheet) {
-        Reading::Accepted(c) => check_text(sheet, c, text),
-        Reading::Refused(why) => say_why(why),
+        Reading::Accepted(c) => check_text(rt, sheet, c, text),
+        Reading::Refused(why) => say_why(rt, why),
     }
 }
 
 // The sheet is the file that word `from` names, the statement's text the one that word `theirs` names.
-pub(crate) fn run(from: usize, theirs: usize) {
+pub(crate) fn run<R: Env + Files + Print + Eprint>(rt: &R, from: usize, theirs: usize) {
     let mut sheet = [0u8; files::ROOM];
     let mut text = [0u8; files::TEXT];
-    let of_sheet = files::read_named(from, &mut sheet);
+    let of_sheet = files::read_named(rt, from, &mut sheet);
     let Input::Bytes(n) = of_sheet else {
         return;
     };
-    let of_text = files::read_text(theirs, &mut text);
+    let of_text = files::read_text(rt, theirs, &mut text);
     let Input::Bytes(m) = of_text else {
         return;
     };
-    if !check_sheet(front(&sheet, n), front(&text, m)) {
-        os::fail(b"desk: the answer cannot be written");
+    if let Err(why) = check_sheet(rt, front(&sheet, n), front(&text, m)) {
+        fail(rt, "desk: the answer cannot be written", why);
     }
 }

@@ -2,126 +2,116 @@
 ghost use Rattle.std.specs.Prelude.{◌≤◌, ◌<◌, length};
 ghost use Rattle.limits.specs.Limits.{most_agents};
 
-use channels::{say, say_number, say_signed};
+use channels::{say, say_signed};
 use limits::{Agent, Contract, Plant};
-use sums::wide;
+use std::io;
 
-fn say_pair(ours: u32, theirs: u32) -> bool {
-    say(b" ours ")
-        & say_number(wide(ours))
-        & say(b" theirs ")
-        & say_number(wide(theirs))
-        & say(b"\n")
+fn say_pair<P: Print>(rt: &P, ours: u32, theirs: u32) -> io::Result<()> {
+    print!(rt; " ours {ours} theirs {theirs}\n")
 }
 
-fn say_price(ours: u32, theirs: u32) -> bool {
+fn say_price<P: Print>(rt: &P, ours: u32, theirs: u32) -> io::Result<()> {
     if ours == theirs {
-        return true;
+        return Ok(());
     }
-    say(b"price") & say_pair(ours, theirs)
+    say(rt, b"price")?;
+    say_pair(rt, ours, theirs)
 }
 
 // The six figures of an agent's line, in their order.
-fn say_name(k: usize) -> bool {
+fn name(k: usize) -> &'static str {
     match k {
-        0 => say(b" share"),
-        1 => say(b" own"),
-        2 => say(b" import"),
-        3 => say(b" contracted"),
-        4 => say(b" bought"),
-        _ => say(b" sold"),
+        0 => "share",
+        1 => "own",
+        2 => "import",
+        3 => "contracted",
+        4 => "bought",
+        _ => "sold",
     }
 }
 
-fn say_figure(a: usize, k: usize, ours: u32, theirs: u32) -> bool {
+fn say_figure<P: Print>(rt: &P, a: usize, k: usize, ours: u32, theirs: u32) -> io::Result<()> {
     if ours == theirs {
-        return true;
+        return Ok(());
     }
-    say(b"agent ") & say_number(a as u64) & say_name(k) & say_pair(ours, theirs)
+    print!(rt; "agent {a} {}", name(k))?;
+    say_pair(rt, ours, theirs)
 }
 
-fn say_figures(
+fn say_figures<P: Print>(
+    rt: &P,
     a: usize,
     ours: &[u32; Agent::CELLS * Agent::MOST],
     theirs: &[u32; Agent::CELLS * Agent::MOST],
-) -> bool
+) -> io::Result<()>
     requires { a < most_agents }
 {
-    let mut said = true;
-    let mut k = 0;
-    while k < Agent::CELLS {
+    for k in 0..Agent::CELLS {
         let i = Agent::CELLS * a + k;
-        said = said & say_figure(a, k, ours[i], theirs[i]);
-        k += 1;
+        say_figure(rt, a, k, ours[i], theirs[i])?;
     }
-    said
+    Ok(())
 }
 
-fn say_money(a: usize, ours: i64, theirs: i64) -> bool {
+fn say_money<P: Print>(rt: &P, a: usize, ours: i64, theirs: i64) -> io::Result<()> {
     if ours == theirs {
-        return true;
+        return Ok(());
     }
-    say(b"agent ")
-        & say_number(a as u64)
-        & say(b" money ours")
-        & say_signed(ours)
-        & say(b" theirs")
-        & say_signed(theirs)
-        & say(b"\n")
+    print!(rt; "agent {a} money ours")?;
+    say_signed(rt, ours)?;
+    say(rt, b" theirs")?;
+    say_signed(rt, theirs)?;
+    say(rt, b"\n")
 }
 
 // Each agent's figures and its money.
-fn say_agents(
+fn say_agents<P: Print>(
+    rt: &P,
     our_figures: &[u32; Agent::CELLS * Agent::MOST],
     their_figures: &[u32; Agent::CELLS * Agent::MOST],
     our_money: &[i64; Agent::MOST],
     their_money: &[i64; Agent::MOST],
-) -> bool {
-    let mut said = true;
-    let mut a = 0;
-    while a < Agent::MOST {
-        let figures = say_figures(a, our_figures, their_figures);
-        let money = say_money(a, our_money[a], their_money[a]);
-        said = said & figures & money;
-        a += 1;
+) -> io::Result<()> {
+    for a in 0..Agent::MOST {
+        say_figures(rt, a, our_figures, their_figures)?;
+        say_money(rt, a, our_money[a], their_money[a])?;
     }
-    said
+    Ok(())
 }
 
-fn say_row(plant: bool, i: usize, ours: u32, theirs: u32) -> bool {
+fn say_row<P: Print>(rt: &P, plant: bool, i: usize, ours: u32, theirs: u32) -> io::Result<()> {
     if ours == theirs {
-        return true;
+        return Ok(());
     }
     if plant {
-        say(b"plant ") & say_number(i as u64) & say(b" schedule") & say_pair(ours, theirs)
+        print!(rt; "plant {i} schedule")?;
     } else {
-        say(b"contract ") & say_number(i as u64) & say(b" amount") & say_pair(ours, theirs)
+        print!(rt; "contract {i} amount")?;
     }
+    say_pair(rt, ours, theirs)
 }
 
 // The schedules of plants, or else the amounts of contracts.
-fn say_rows(plants: bool, ours: &[u32], theirs: &[u32]) -> bool
+fn say_rows<P: Print>(rt: &P, plants: bool, ours: &[u32], theirs: &[u32]) -> io::Result<()>
     requires { length ours.now ≤ length theirs.now }
 {
-    let mut said = true;
-    let mut i = 0;
-    while i < ours.len() {
-        said = said & say_row(plants, i, ours[i], theirs[i]);
-        i += 1;
+    for i in 0..ours.len() {
+        say_row(rt, plants, i, ours[i], theirs[i])?;
     }
-    said
+    Ok(())
 }
 
 // Of a statement in lists that hold 0 past the sheet's rows, as ours do: there nothing differs. An hour that we don't settle has nothing
 // to differ from.
-pub(crate) fn say_all(
+pub(crate) fn say_all<P: Print>(
+    rt: &P,
     sheet: &[u8],
     price: u32,
     figures: &[u32; Agent::CELLS * Agent::MOST],
     money: &[i64; Agent::MOST],
     schedule: &[u32; Plant::MOST],
     amounts: &[u32; Contract::MOST],
-) -> bool {
+) -> io::Result<()> {
     let mut our_figures = [0u32; Agent::CELLS * Agent::MOST];
     let mut our_money = [0i64; Agent::MOST];
     let mut our_schedule = [0u32; Plant::MOST];
@@ -134,10 +124,10 @@ pub(crate) fn say_all(
         &mut our_amounts,
     );
     if r.number != 0 {
-        return true;
+        return Ok(());
     }
-    say_price(r.price, price)
-        & say_agents(&our_figures, figures, &our_money, money)
-        & say_rows(true, &our_schedule, schedule)
-        & say_rows(false, &our_amounts, amounts)
+    say_price(rt, r.price, price)?;
+    say_agents(rt, &our_figures, figures, &our_money, money)?;
+    say_rows(rt, true, &our_schedule, schedule)?;
+    say_rows(rt, false, &our_amounts, amounts)
 }

@@ -9,12 +9,15 @@ mod making;
 mod meanings;
 mod showing;
 
+use std::env::Env;
+use std::rt::Files;
+
 // The words that take one file.
-fn run_one(word: &[u8], from: usize) -> bool {
+fn run_one<R: Env + Files + Print + Eprint>(rt: &R, word: &[u8], from: usize) -> bool {
     if words::is_same(word, b"text") {
-        showing::run(from, false);
+        showing::run(rt, from, false);
     } else if words::is_same(word, b"statement") {
-        showing::run(from, true);
+        showing::run(rt, from, true);
     } else {
         return false;
     }
@@ -22,11 +25,11 @@ fn run_one(word: &[u8], from: usize) -> bool {
 }
 
 // The words that take two.
-fn run_two(word: &[u8], one: usize, other: usize) -> bool {
+fn run_two<R: Env + Files + Print + Eprint>(rt: &R, word: &[u8], one: usize, other: usize) -> bool {
     if words::is_same(word, b"sheet") {
-        making::run(one, other);
+        making::run(rt, one, other);
     } else if words::is_same(word, b"check") {
-        checks::run(one, other);
+        checks::run(rt, one, other);
     } else {
         return false;
     }
@@ -35,13 +38,13 @@ fn run_two(word: &[u8], one: usize, other: usize) -> bool {
 
 // What the word asks for, with the words from number `next` up to, not including, `end` behind it. Answers whether it is one of these
 // words, with as many behind it as it takes.
-pub fn run(word: &[u8], next: usize, end: usize) -> bool {
+pub fn run<R: Env + Files + Print + Eprint>(rt: &R, word: &[u8], next: usize, end: usize) -> bool {
     if end < next {
         return false;
     }
     match end - next {
-        1 => run_one(word, next),
-        2 => run_two(word, next, next + 1),
+        1 => run_one(rt, word, next),
+        2 => run_two(rt, word, next, next + 1),
         _ => false,
     }
 }

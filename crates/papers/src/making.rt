@@ -1,48 +1,58 @@
 // `desk sheet TEXT OUT`: the sheet of a text in a new file.
 use crate::{faults, meanings};
-use channels::{files, front, say, say_number, say_refusal};
+use channels::{fail, files, front, say, say_refusal};
 use input::Input;
 use refusals::Refusal;
+use std::env::Env;
+use std::io;
+use std::rt::Files;
 use typing::Made;
 
 // What is said is of a file that was written; why it could not be was told.
-fn write_sheet(sheet: &[u8], out: usize) -> bool {
-    if !files::write_named(out, sheet) {
-        return true;
+fn write_sheet<R: Env + Files + Print + Eprint>(
+    rt: &R,
+    sheet: &[u8],
+    out: usize,
+) -> io::Result<()> {
+    if !files::write_named(rt, out, sheet) {
+        return Ok(());
     }
-    say(b"made ") & say_number(sheet.len() as u64) & say(b" bytes\n")
+    print!(rt; "made {} bytes\n", sheet.len())
 }
 
 // The line of the row that is refused: a refusal of no row has line 0.
-fn say_line(line: usize) -> bool {
+fn say_line<P: Print>(rt: &P, line: usize) -> io::Result<()> {
     if line == 0 {
-        return true;
+        return Ok(());
     }
-    say(b" line ") & say_number(line as u64)
+    print!(rt; " line {line}")
 }
 
-fn say_refused_row(line: usize, why: Refusal) -> bool {
-    say_refusal(why) & say_line(line) & say(b"\n") & meanings::say_meaning(why.number)
+fn say_refused_row<P: Print>(rt: &P, line: usize, why: Refusal) -> io::Result<()> {
+    say_refusal(rt, why)?;
+    say_line(rt, line)?;
+    say(rt, b"\n")?;
+    meanings::say_meaning(rt, why.number)
 }
 
-fn make(text: &[u8], out: usize) -> bool {
+fn make<R: Env + Files + Print + Eprint>(rt: &R, text: &[u8], out: usize) -> io::Result<()> {
     let mut sheet = [0u8; files::ROOM];
     let made = typing::make(text, &mut sheet);
     match made {
-        Made::Done(n) => write_sheet(front(&sheet, n), out),
-        Made::Wrong(line, f) => faults::say_wrong(line, f, false),
-        Made::Refused(line, why) => say_refused_row(line, why),
+        Made::Done(n) => write_sheet(rt, front(&sheet, n), out),
+        Made::Wrong(line, f) => faults::say_wrong(rt, line, f, false),
+        Made::Refused(line, why) => say_refused_row(rt, line, why),
     }
 }
 
 // The text is the file that word `from` names, the sheet the one that word `out` names.
-pub(crate) fn run(from: usize, out: usize) {
+pub(crate) fn run<R: Env + Files + Print + Eprint>(rt: &R, from: usize, out: usize) {
     let mut text = [0u8; files::TEXT];
-    let got = files::read_text(from, &mut text);
+    let got = files::read_text(rt, from, &mut text);
     let Input::Bytes(n) = got else {
         return;
     };
-    if !make(front(&text, n), out) {
-        os::fail(b"desk: the answer cannot be written");
+    if let Err(why) = make(rt, front(&text, n), out) {
+        fail(rt, "desk: the answer cannot be written", why);
     }
 }

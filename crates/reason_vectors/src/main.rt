@@ -5,7 +5,7 @@
 #![tactic(auto)]
 
 use input::cases::Case;
-use libc::STDOUT_FILENO;
+use std::io;
 
 // More cases than these are not looked at.
 const MOST_CASES: u64 = 1000000;
@@ -16,97 +16,68 @@ const SHARES: u32 = 5;
 // A number that no plant and no contract of a sheet has.
 const NOBODY: u32 = 4294967295;
 
-fn say(text: &[u8]) {
-    io::write_all(STDOUT_FILENO, text);
-}
-
-fn print_number(n: u32) {
-    io::print_decimal(STDOUT_FILENO, n as u64);
-}
-
-fn print_plant(sheet: &[u8], i: u32) {
+fn print_plant<P: Print>(rt: &P, sheet: &[u8], i: u32) -> io::Result<()> {
     let mut answer = [0u32; 8];
     capi::why::naomhral_why_plant(sheet, i, &mut answer);
-    say(b" ");
-    print_number(answer[2]);
+    print!(rt; " {}", answer[2])
 }
 
-fn print_plants(sheet: &[u8], n: u32) {
-    say(b"plants");
+fn print_plants<P: Print>(rt: &P, sheet: &[u8], n: u32) -> io::Result<()> {
+    rt.print("plants")?;
     for i in 0..n {
-        print_plant(sheet, i);
+        print_plant(rt, sheet, i)?;
     }
-    say(b"\n");
+    rt.print("\n")
 }
 
-fn print_group(remainder: u32, total: u32) {
-    say(b":");
-    print_number(remainder);
-    say(b":");
-    print_number(total);
-}
-
-fn print_contract(sheet: &[u8], j: u32) {
+fn print_contract<P: Print>(rt: &P, sheet: &[u8], j: u32) -> io::Result<()> {
     let mut answer = [0u32; 8];
     capi::why::naomhral_why_contract(sheet, j, &mut answer);
-    say(b" ");
-    print_number(answer[2]);
-    if answer[2] == SHARES {
-        print_group(answer[6], answer[7]);
+    let reason = answer[2];
+    if reason == SHARES {
+        print!(rt; " {reason}:{}:{}", answer[6], answer[7])
     } else {
-        say(b":0:0");
+        print!(rt; " {reason}:0:0")
     }
 }
 
-fn print_contracts(sheet: &[u8], n: u32) {
-    say(b"contracts");
+fn print_contracts<P: Print>(rt: &P, sheet: &[u8], n: u32) -> io::Result<()> {
+    rt.print("contracts")?;
     for j in 0..n {
-        print_contract(sheet, j);
+        print_contract(rt, sheet, j)?;
     }
-    say(b"\n");
-}
-
-fn print_refused(number: u32, place: u32) {
-    say(b"refused ");
-    print_number(number);
-    say(b" ");
-    print_number(place);
-    say(b"\n");
+    rt.print("\n")
 }
 
 // What is asked of nobody is refused: with 12 where the sheet settles.
-fn run_case(number: u64, sheet: &[u8]) {
-    say(b"case ");
-    io::print_decimal(STDOUT_FILENO, number);
-    say(b"\n");
+fn run_case<P: Print>(rt: &P, number: u64, sheet: &[u8]) -> io::Result<()> {
+    print!(rt; "case {number}\n")?;
     let mut answer = [0u32; 8];
     let mut other = [0u32; 8];
     let refusal = capi::why::naomhral_why_plant(sheet, NOBODY, &mut answer);
     let again = capi::why::naomhral_why_contract(sheet, NOBODY, &mut other);
     if refusal != again {
-        say(b"two answers\n");
-        return;
+        return rt.print("two answers\n");
     }
     if refusal != 12 {
-        print_refused(answer[0], answer[1]);
-        return;
+        return print!(rt; "refused {} {}\n", answer[0], answer[1]);
     }
     let mut counts = [0u32; 6];
     capi::naomhral_read(sheet, &mut counts);
-    print_plants(sheet, counts[4]);
-    print_contracts(sheet, counts[5]);
+    print_plants(rt, sheet, counts[4])?;
+    print_contracts(rt, sheet, counts[5])
 }
 
-fn main() {
-    let mut buf = io::large_buffer();
-    let mut number: u64 = 0;
-    while number < MOST_CASES {
-        let case = input::cases::read_case(&mut buf);
+fn main(rt: HostRuntime) -> io::Result<()> {
+    let mut buf = [0u8; 65536];
+    let mut from = rt.reader();
+    for number in 0..MOST_CASES {
+        let case = input::cases::read_case(&mut from, &mut buf);
         let Case::Sheet(n) = case else {
-            input::cases::complain(case);
-            return;
+            input::cases::complain(&rt, case);
+            break;
         };
-        run_case(number, &buf[..n]);
-        number += 1;
+        run_case(&rt, number, &buf[..n])?;
     }
+    Ok(())
 }

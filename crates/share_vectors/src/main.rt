@@ -6,66 +6,56 @@ ghost use Rattle.std.specs.Prelude.{◌≤◌, length};
 ghost use Rattle.share.specs.Share.{most_weights};
 
 use input::cases::{Case, Got, Next};
-use libc::STDOUT_FILENO;
 use refusals::Verdict;
 use share::MOST_WEIGHTS;
+use std::io;
+use std::io::Read;
 
-fn print_number(n: u32) {
-    io::write_all(STDOUT_FILENO, b" ");
-    io::print_decimal(STDOUT_FILENO, n as u64);
-}
-
-fn print_first(list: &[u32; MOST_WEIGHTS], n: usize)
+fn print_first<P: Print>(rt: &P, list: &[u32; MOST_WEIGHTS], n: usize) -> io::Result<()>
     requires { n ≤ most_weights }
 {
-    let mut i = 0;
-    while i < n {
-        print_number(list[i]);
-        i += 1;
+    for x in &list[..n] {
+        print!(rt; " {x}")?;
     }
+    Ok(())
 }
 
 // Shares over the weights, and prints the answer.
-fn print_shares(amount: u32, weights: &[u32])
+fn print_shares<P: Print>(rt: &P, amount: u32, weights: &[u32]) -> io::Result<()>
     requires { length weights.now ≤ most_weights }
 {
     let mut out = [0u32; MOST_WEIGHTS];
     let answer = share::share(amount, weights, &mut out);
     match answer {
-        Verdict::Fine => print_first(&out, weights.len()),
-        Verdict::Refused(r) => {
-            io::write_all(STDOUT_FILENO, b" refused");
-            print_number(r.number);
-            print_number(r.place);
-        }
+        Verdict::Fine => print_first(rt, &out, weights.len()),
+        Verdict::Refused(r) => print!(rt; " refused {} {}", r.number, r.place),
     }
 }
 
 // The next case, and whether to go on.
-fn run_case(case: u64) -> bool {
-    let head = input::cases::next_number();
+fn run_case<P: Print + Eprint, R: Read>(rt: &P, from: &mut R, case: u64) -> io::Result<bool> {
+    let head = input::cases::next_number(from);
     let Next::Number(amount) = head else {
-        return false;
+        return Ok(false);
     };
     let mut weights = [0u32; MOST_WEIGHTS];
-    let list = input::cases::read_list(&mut weights);
+    let list = input::cases::read_list(from, &mut weights);
     let Got::Cells(n) = list else {
-        input::cases::complain(Case::Cut);
-        return false;
+        input::cases::complain(rt, Case::Cut);
+        return Ok(false);
     };
-    io::write_all(STDOUT_FILENO, b"share ");
-    io::print_decimal(STDOUT_FILENO, case);
-    print_shares(amount, &weights[..n]);
-    io::write_all(STDOUT_FILENO, b"\n");
-    true
+    print!(rt; "share {case}")?;
+    print_shares(rt, amount, &weights[..n])?;
+    rt.print("\n")?;
+    Ok(true)
 }
 
-fn main() {
-    let mut case: u64 = 0;
-    while case < 1000000 {
-        if !run_case(case) {
-            return;
+fn main(rt: HostRuntime) -> io::Result<()> {
+    let mut from = rt.reader();
+    for case in 0..1000000u64 {
+        if !run_case(&rt, &mut from, case)? {
+            break;
         }
-        case += 1;
     }
+    Ok(())
 }

@@ -6,25 +6,17 @@
 ghost use Rattle.std.specs.Prelude.{◌≤◌, ◌<◌};
 
 use input::cases::Case;
-use libc::STDOUT_FILENO;
 use limits::{Agent, Boundary, Contract, Plant};
 use refusals::Refusal;
 use sheet::{Counts, Fields, Reading};
+use std::io;
 use writing::Writing;
 
 // More cases than these are not looked at.
 const MOST_CASES: u64 = 1000000;
 
-fn print_number(n: u64) {
-    io::write_all(STDOUT_FILENO, b" ");
-    io::print_decimal(STDOUT_FILENO, n);
-}
-
-fn print_refused(r: Refusal) {
-    io::write_all(STDOUT_FILENO, b"refused");
-    print_number(r.number as u64);
-    print_number(r.place as u64);
-    io::write_all(STDOUT_FILENO, b"\n");
+fn print_refused<P: Print>(rt: &P, r: Refusal) -> io::Result<()> {
+    print!(rt; "refused {} {}\n", r.number, r.place)
 }
 
 // Number j of a row.
@@ -49,11 +41,9 @@ fn put(out: &mut [u32], k: u32, x: u32) {
 fn take_numbers(s: &[u8], section: u32, width: u32, n: u32, out: &mut [u32])
     requires { 0 < width }
 {
-    let mut k: u32 = 0;
-    while k < n {
+    for k in 0..n {
         let f = sheet::fields_in(sheet::asking::ask_row(s, section, k / width));
         put(out, k, field(f, k % width));
-        k += 1;
     }
 }
 
@@ -61,12 +51,10 @@ fn starts_with(a: &[u8], s: &[u8]) -> bool {
     if a.len() < s.len() {
         return false;
     }
-    let mut i = 0;
-    while i < s.len() {
+    for i in 0..s.len() {
         if a[i] != s[i] {
             return false;
         }
-        i += 1;
     }
     true
 }
@@ -151,40 +139,37 @@ fn same_again(s: &[u8], c: Counts) -> bool {
     )
 }
 
-fn print_accepted(s: &[u8], c: Counts) {
-    io::write_all(STDOUT_FILENO, b"accepted");
-    print_number(c.agents as u64);
-    print_number(c.boundaries as u64);
-    print_number(c.plants as u64);
-    print_number(c.contracts as u64);
+fn print_accepted<P: Print>(rt: &P, s: &[u8], c: Counts) -> io::Result<()> {
+    print!(rt;
+        "accepted {} {} {} {}",
+        c.agents, c.boundaries, c.plants, c.contracts
+    )?;
     if same_again(s, c) {
-        io::write_all(STDOUT_FILENO, b" same\n");
+        rt.print(" same\n")
     } else {
-        io::write_all(STDOUT_FILENO, b" differs\n");
+        rt.print(" differs\n")
     }
 }
 
-fn print_case(case: u64, s: &[u8]) {
-    io::write_all(STDOUT_FILENO, b"case");
-    print_number(case);
-    io::write_all(STDOUT_FILENO, b"\n");
+fn print_case<P: Print>(rt: &P, case: u64, s: &[u8]) -> io::Result<()> {
+    print!(rt; "case {case}\n")?;
     let answer = sheet::read(s);
     match answer {
-        Reading::Accepted(c) => print_accepted(s, c),
-        Reading::Refused(r) => print_refused(r),
+        Reading::Accepted(c) => print_accepted(rt, s, c),
+        Reading::Refused(r) => print_refused(rt, r),
     }
 }
 
-fn main() {
-    let mut buf = io::large_buffer();
-    let mut number: u64 = 0;
-    while number < MOST_CASES {
-        let case = input::cases::read_case(&mut buf);
+fn main(rt: HostRuntime) -> io::Result<()> {
+    let mut buf = [0u8; 65536];
+    let mut from = rt.reader();
+    for number in 0..MOST_CASES {
+        let case = input::cases::read_case(&mut from, &mut buf);
         let Case::Sheet(n) = case else {
-            input::cases::complain(case);
-            return;
+            input::cases::complain(&rt, case);
+            break;
         };
-        print_case(number, &buf[..n]);
-        number += 1;
+        print_case(&rt, number, &buf[..n])?;
     }
+    Ok(())
 }

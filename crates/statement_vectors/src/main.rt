@@ -8,7 +8,8 @@ ghost use Rattle.std.specs.Prelude.{◌<◌, ◌+◌, length};
 ghost use Rattle.input.specs.Cases.{GotWithin};
 
 use input::cases::{Case, Got, Next};
-use libc::{STDERR_FILENO, STDOUT_FILENO};
+use std::io;
+use std::io::Read;
 
 // More statements than these are not looked at.
 const MOST_STATEMENTS: u64 = 1000000;
@@ -32,10 +33,21 @@ fn signed(low: u32, high: u32) -> i64 {
     0
 }
 
-fn read_money(out: &mut [i64]) -> Got
+// The next two numbers, the low half first.
+fn next_signed<R: Read>(from: &mut R) -> Option<i64> {
+    let Next::Number(low) = input::cases::next_number(from) else {
+        return None;
+    };
+    let Next::Number(high) = input::cases::next_number(from) else {
+        return None;
+    };
+    Some(signed(low, high))
+}
+
+fn read_money<R: Read>(from: &mut R, out: &mut [i64]) -> Got
     ensures { GotWithin result (length out.new) }
 {
-    let head = input::cases::next_number();
+    let head = input::cases::next_number(from);
     let Next::Number(count) = head else {
         return Got::Cut;
     };
@@ -43,58 +55,49 @@ fn read_money(out: &mut [i64]) -> Got
     if out.len() < n {
         return Got::Cut;
     }
-    let mut i = 0;
-    while i < n {
-        let first = input::cases::next_number();
-        let Next::Number(low) = first else {
+    for i in 0..n {
+        let Some(m) = next_signed(from) else {
             return Got::Cut;
         };
-        let second = input::cases::next_number();
-        let Next::Number(high) = second else {
-            return Got::Cut;
-        };
-        let m = signed(low, high);
         out[i] = m;
-        i += 1;
     }
     Got::Cells(n)
 }
 
-fn print_answer(number: u64, refusal: u32, place: u32) {
-    io::write_all(STDOUT_FILENO, b"statement ");
-    io::print_decimal(STDOUT_FILENO, number);
-    io::write_all(STDOUT_FILENO, b" ");
-    io::print_decimal(STDOUT_FILENO, refusal as u64);
-    io::write_all(STDOUT_FILENO, b" ");
-    io::print_decimal(STDOUT_FILENO, place as u64);
-    io::write_all(STDOUT_FILENO, b"\n");
+fn print_answer<P: Print>(rt: &P, number: u64, refusal: u32, place: u32) -> io::Result<()> {
+    print!(rt; "statement {number} {refusal} {place}\n")
 }
 
 // Reads the lists of a statement of this sheet, checks it, and prints the answer. False where the input ended within it.
-fn run_statement(number: u64, sheet: &[u8]) -> bool {
+fn run_statement<P: Print, R: Read>(
+    rt: &P,
+    from: &mut R,
+    number: u64,
+    sheet: &[u8],
+) -> io::Result<bool> {
     let mut figures = [0u32; 1024];
     let mut money = [0i64; 1024];
     let mut schedule = [0u32; 1024];
     let mut amounts = [0u32; 1024];
-    let head = input::cases::next_number();
+    let head = input::cases::next_number(from);
     let Next::Number(price) = head else {
-        return false;
+        return Ok(false);
     };
-    let first = input::cases::read_list(&mut figures);
+    let first = input::cases::read_list(from, &mut figures);
     let Got::Cells(f) = first else {
-        return false;
+        return Ok(false);
     };
-    let second = read_money(&mut money);
+    let second = read_money(from, &mut money);
     let Got::Cells(m) = second else {
-        return false;
+        return Ok(false);
     };
-    let third = input::cases::read_list(&mut schedule);
+    let third = input::cases::read_list(from, &mut schedule);
     let Got::Cells(s) = third else {
-        return false;
+        return Ok(false);
     };
-    let fourth = input::cases::read_list(&mut amounts);
+    let fourth = input::cases::read_list(from, &mut amounts);
     let Got::Cells(t) = fourth else {
-        return false;
+        return Ok(false);
     };
     let mut answer = [0u32; 2];
     capi::naomhral_check(
@@ -106,26 +109,23 @@ fn run_statement(number: u64, sheet: &[u8]) -> bool {
         &amounts[..t],
         &mut answer,
     );
-    print_answer(number, answer[0], answer[1]);
-    true
+    print_answer(rt, number, answer[0], answer[1])?;
+    Ok(true)
 }
 
-fn main() {
-    let mut buf = io::large_buffer();
-    let mut number: u64 = 0;
-    while number < MOST_STATEMENTS {
-        let sheet = input::cases::read_case(&mut buf);
+fn main(rt: HostRuntime) -> io::Result<()> {
+    let mut buf = [0u8; 65536];
+    let mut from = rt.reader();
+    for number in 0..MOST_STATEMENTS {
+        let sheet = input::cases::read_case(&mut from, &mut buf);
         let Case::Sheet(n) = sheet else {
-            return;
+            break;
         };
-        let whole = run_statement(number, &buf[..n]);
+        let whole = run_statement(&rt, &mut from, number, &buf[..n])?;
         if !whole {
-            io::write_all(
-                STDERR_FILENO,
-                b"statement_vectors: the input ends within a statement\n",
-            );
-            return;
+            let _ = rt.eprint("statement_vectors: the input ends within a statement\n");
+            break;
         }
-        number += 1;
     }
+    Ok(())
 }

@@ -1,14 +1,40 @@
 // The words behind a program's name, and the files that they name.
 #![tactic(auto)]
 
-ghost use Rattle.std.specs.Prelude.{◌≡◌};
+ghost use Rattle.std.specs.Prelude.{◌≡◌, ◌≤◌, length};
 ghost use Rattle.words.specs.Words.{same_word, spelled_in, with_digit};
+
+use std::env::{Env, FillError};
+use std::fs::{OpenFile, OpenOptions};
+use std::io::{Error, ErrorKind, Write};
+use std::rt::Files;
+use std::{fs, io, str};
 
 // What a word spells.
 #[derive(Clone, Copy)]
 pub enum Number {
     Is(u32),
     Not,
+}
+
+// Puts word i at the front of the buffer and answers its length: 0 where there is no such word, or where it is longer than the buffer.
+pub fn word<E: Env>(rt: &E, i: usize, buf: &mut [u8]) -> usize
+    ensures { result ≤ length buf.new }
+{
+    match rt.arg(i, buf) {
+        Ok(n) => n,
+        Err(_) => 0,
+    }
+}
+
+// How many words there are, the program's own name among them.
+pub fn count<E: Env>(rt: &E) -> usize {
+    for i in 0..usize::MAX {
+        if let Err(FillError::NotPresent) = rt.arg(i, &mut []) {
+            return i;
+        }
+    }
+    usize::MAX
 }
 
 // Whether two words are the same.
@@ -63,17 +89,30 @@ pub fn number_of(word: &[u8]) -> Number
     Number::Is(value)
 }
 
-// Makes a new file of these bytes. Where that fails, as where the name is taken, errno says why and no file of it is left.
-pub fn write_new(path: &[u8], bytes: &[u8]) -> bool {
-    let descriptor = os::create(path);
-    if descriptor < 0 {
-        return false;
+// All bytes, and no less, behind one another in the file, which is closed then. What the system holds back is waited for: it could not be
+// told later that it failed.
+fn fill<F: Write + OpenFile + Drop>(mut file: F, bytes: &[u8]) -> io::Result<()> {
+    file.write_all(bytes)?;
+    file.sync_all()
+}
+
+// A new file of that name, where there is none.
+fn create<R: Files>(rt: &R, name: &str) -> io::Result<R::File> {
+    OpenOptions::new()
+        .write(true)
+        .create_new(true)
+        .open(rt, name)
+}
+
+// Makes a new file of these bytes. Where that fails, as where the name is taken, the error says why and no file of it is left.
+pub fn write_new<R: Files>(rt: &R, path: &[u8], bytes: &[u8]) -> io::Result<()> {
+    let Ok(name) = str::from_utf8(path) else {
+        return Err(Error::from(ErrorKind::InvalidFilename));
+    };
+    let file = create(rt, name)?;
+    let written = fill(file, bytes);
+    if written.is_err() {
+        let _ = fs::remove_file(rt, name);
     }
-    let written = io::write_all(descriptor, bytes);
-    let closed = libc::close(descriptor);
-    if written & (closed == 0) {
-        return true;
-    }
-    os::unlink(path);
-    false
+    written
 }

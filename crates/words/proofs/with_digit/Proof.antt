@@ -6,26 +6,26 @@ use Rattle.words.specs.Words.{with_digit}
 use Rattle.words.proofs.with_digit.Statement.{statement}
 use Rattle.words.proofs.with_digit.Tie as tie
 
-returns : tie.Need-returns
+returns : tie.Need-returns-then-byte-lt48
 unfolding with_digit
-returns c = rw (lt-ltb c.before.args.byte 48 (omega arith)) refl
+returns c = rw (lt-ltb c.args.byte 48 (omega arith)) refl
 
-returns_2 : tie.Need-returns-2
+returns_2 : tie.Need-returns-then-byte-gt57
 unfolding with_digit
 returns_2 c =
-    let b = c.before.before.args.byte in
+    let b = c.args.byte in
     rw (le-ltb b 48 (omega arith), lt-ltb 57 b (omega arith)) refl
 
-returns_3 : tie.Need-returns-3
+returns_3 : tie.Need-returns-then-value-gt99999999
 unfolding with_digit
 returns_3 c =
-    let a = c.before.before.before.args in
+    let a = c.args in
     rw (le-ltb a.byte 48 (omega arith), le-ltb 57 a.byte (omega arith), lt-ltb 99999999 a.value (omega arith)) refl
 
-returns_4 : tie.Need-returns-4
+returns_4 : tie.Need-returns
 unfolding with_digit
 returns_4 c =
-    let a = c.before.before.before.args in
+    let a = c.args in
     rw (le-ltb a.byte 48 (omega arith), le-ltb 57 a.byte (omega arith), le-ltb 99999999 a.value (omega arith)) refl
 
 pub with_digit_spec : {M : Type 1} → statement M
