@@ -45,16 +45,6 @@ module _ (c : Counts) (p : ℕ) (l : Lent) (w : Writable c p l) (before : Lent) 
   unfolding statement_of statement_after fault_number
   answer_back = rw (room, no_fault c p l w, price_back c p l w)
 
-  lists_back : Kept c l before (stated_in (statement_text c p l) before)
-  lists_back =
-      let f = fitting c before room in
-      record {
-        figures = figures_back c p l w before.figures f.0;
-        money = money_back c p l w before.money f.1;
-        schedule = schedule_back c p l w before.schedule f.2;
-        amounts = amounts_back c p l w before.amounts f.3;
-      }
-
   -- WHAT WAS WRITTEN, READ, IS THE SAME STATEMENT: of every outcome that meets the promise of reading
   pub back : (r : Statement) (after : Lent) → StatementInto (statement_text c p l) c before r after
       → (r ≡ Statement.Price p) × Kept c l before after
@@ -63,4 +53,12 @@ module _ (c : Counts) (p : ℕ) (l : Lent) (w : Writable c p l) (before : Lent) 
       let e = d.answer ∙ answer_back in
       let s : after ≡ stated_in (statement_text c p l) before =
       d.lists ∙ ap (λ (x : Statement). lists_after x (statement_text c p l) before) e in
-      (e, rw s lists_back)
+      let f = fitting c before room in
+      let lists : Kept c l before (stated_in (statement_text c p l) before) =
+      record {
+        figures = figures_back c p l w before.figures f.0;
+        money = money_back c p l w before.money f.1;
+        schedule = schedule_back c p l w before.schedule f.2;
+        amounts = amounts_back c p l w before.amounts f.3;
+      } in
+      (e, rw s lists)

@@ -1,4 +1,5 @@
 pub mod Walks
+pub mod Over
 pub mod Lists
 pub mod Marks
 pub mod Back

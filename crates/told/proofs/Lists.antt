@@ -18,7 +18,8 @@ use Rattle.text.specs.Lines.{lines, over, word_of, same}
 use Rattle.text.specs.declared.Line.{Line}
 use Rattle.stating.specs.Rows.{figures_from, money_from, second_from, figures_line, money_line, second_line, price_line, price_in}
 use Rattle.telling.specs.Text.{statement_text}
-use Rattle.told.proofs.Walks.{Writable, walk, walk_still, over_statement, agent_read, plant_read, contract_read}
+use Rattle.told.proofs.Walks.{Writable, walk, walk_still, agent_read, plant_read, contract_read}
+use Rattle.told.proofs.Over.{over_statement}
 
 -- ---- stores one after the other fill a list
 filled_run : (l₀ l : List ℕ) (f : ℕ → ℕ) (vs : List ℕ) (n : ℕ) → n + length vs ≤ length l

@@ -25,7 +25,8 @@ use Rattle.text.proofs.Money.{owed_right}
 use Rattle.stating.specs.Rows.{asks, rows_for, rows_ahead, all_rows, row_number, row_place, Marked, row_fault, statement_fault}
 use Rattle.stating.specs.Rows.{with_mark, mark_row, mark_line, unmarked, marked_in, last_fault}
 use Rattle.telling.specs.Text.{agent_numbers, statement_text}
-use Rattle.told.proofs.Walks.{Writable, walk, over_statement, price_read, agent_read, plant_read, contract_read}
+use Rattle.told.proofs.Walks.{Writable, walk, price_read, agent_read, plant_read, contract_read}
+use Rattle.told.proofs.Over.{over_statement}
 
 -- a line as it is read, where no earlier one is wrong
 abbrev marking : Counts → Line → Marked → Marked
