@@ -4,14 +4,12 @@
 #![tactic(auto)]
 
 ghost use Rattle.std.specs.Prelude.{◌≤◌};
-ghost use Rattle.limits.specs.Limits.{most_agents, most_plants, most_contracts};
-ghost use Rattle.day.specs.Day.{hours};
 
 use day::{AMOUNTS, FIGURES, HOURS, MONEY, SCHEDULE};
 use hour::Summary;
 use input::Input;
 use input::cases::Next;
-use limits::{Agent, Contract, Plant};
+use limits::Agent;
 use printing::Printed;
 use sheet::{Counts, Reading};
 use std::io;
@@ -125,12 +123,12 @@ fn counts(sheet: &[u8]) -> Counts {
     c
 }
 
-// How many cells there are for n rows of a settled hour, none for a refused one: never more than its section may have.
-fn needed(settled: bool, n: usize, most: usize) -> usize
-    ensures { result ≤ most }
+// How many cells there are for n rows of a settled hour, none for a refused one.
+fn needed(settled: bool, n: usize) -> usize
+    ensures { result ≤ 256 }
 {
     if settled {
-        if n <= most {
+        if n <= 256 {
             return n;
         }
     }
@@ -160,7 +158,7 @@ fn print_parts<P: Print>(
     schedule: &[u32],
     amounts: &[u32],
 ) -> io::Result<()>
-    requires { (h ≤ hours) × (n ≤ most_agents) × (p ≤ most_plants) × (q ≤ most_contracts) }
+    requires { (h ≤ 24) × (n ≤ 256) × (p ≤ 256) × (q ≤ 256) }
 {
     rt.print("figures")?;
     print_cells(rt, figures, FIGURES * h, Agent::CELLS * n)?;
@@ -183,7 +181,7 @@ fn parts_kept(
     schedule: &[u32],
     amounts: &[u32],
 ) -> bool
-    requires { (h ≤ hours) × (n ≤ most_agents) × (p ≤ most_plants) × (q ≤ most_contracts) }
+    requires { (h ≤ 24) × (n ≤ 256) × (p ≤ 256) × (q ≤ 256) }
 {
     let f = cells_kept(
         figures,
@@ -215,15 +213,15 @@ fn print_hour<P: Print>(
     schedule: &[u32],
     amounts: &[u32],
 ) -> io::Result<()>
-    requires { h ≤ hours }
+    requires { h ≤ 24 }
 {
     rt.print(h)?;
     print_cells(rt, summaries, 5 * h, 5)?;
     let settled = cell(summaries, 5 * h) == 0;
     let c = counts(sheet);
-    let n = needed(settled, c.agents, Agent::MOST);
-    let p = needed(settled, c.plants, Plant::MOST);
-    let q = needed(settled, c.contracts, Contract::MOST);
+    let n = needed(settled, c.agents);
+    let p = needed(settled, c.plants);
+    let q = needed(settled, c.contracts);
     if settled {
         print_parts(rt, h, n, p, q, figures, money, schedule, amounts)?;
     }

@@ -59,12 +59,11 @@ fn starts_with(a: &[u8], s: &[u8]) -> bool {
     true
 }
 
-// An accepted sheet's count, which is never over its limit.
-fn count(n: usize, most: usize) -> u32
-    requires { most ≤ 4294967295 }
-    ensures { result ≤ most }
+// An accepted sheet's count: none is over 256.
+fn count(n: usize) -> u32
+    ensures { result ≤ 256 }
 {
-    if n < most { n as u32 } else { most as u32 }
+    if n < 256 { n as u32 } else { 256 }
 }
 
 // Whether these numbers, written, are the sheet.
@@ -115,10 +114,10 @@ fn take_and_write(
     contracts: &mut [u32],
     out: &mut [u8],
 ) -> bool {
-    take_numbers(s, 1, 1, count(c.agents, Agent::MOST), agents);
-    take_numbers(s, 2, 4, 4 * count(c.boundaries, Boundary::MOST), boundaries);
-    take_numbers(s, 3, 5, 5 * count(c.plants, Plant::MOST), plants);
-    take_numbers(s, 4, 5, 5 * count(c.contracts, Contract::MOST), contracts);
+    take_numbers(s, 1, 1, count(c.agents), agents);
+    take_numbers(s, 2, 4, 4 * count(c.boundaries), boundaries);
+    take_numbers(s, 3, 5, 5 * count(c.plants), plants);
+    take_numbers(s, 4, 5, 5 * count(c.contracts), contracts);
     write_again(s, c, agents, boundaries, plants, contracts, out)
 }
 
