@@ -1,6 +1,6 @@
 // The cases of a test program: standard input holds one behind another. Numbers have 32 bits, the low byte first.
-ghost use Rattle.std.specs.Prelude.{◌≡◌, ◌<◌, length};
-ghost use Rattle.input.specs.Cases.{CaseWithin, GotWithin};
+ghost use Rattle.std.specs.Prelude.{◌≡◌, ◌<◌, length, true};
+ghost use Rattle.input.specs.Cases.{CaseWithin, GotWithin, NumberTaken, SheetTaken, CaseTaken, NumbersTaken, ListTaken};
 
 use crate::Input;
 use std::io::{Error, Read};
@@ -36,7 +36,9 @@ fn wide(x: u8) -> u32
     x as u32
 }
 
-pub fn next_number<R: Read>(from: &mut R) -> Next {
+pub fn next_number<R: Read>(from: &mut R) -> Next
+    ensures { NumberTaken (R.remaining from.old) (R.remaining from.new) result }
+{
     let mut head = [0u8; 4];
     let got = crate::read_all(from, &mut head);
     let k = match got {
@@ -55,7 +57,9 @@ pub fn next_number<R: Read>(from: &mut R) -> Next {
 }
 
 // A number for each cell; false where the input ends within them.
-pub fn read_numbers<R: Read>(from: &mut R, out: &mut [u32]) -> bool {
+pub fn read_numbers<R: Read>(from: &mut R, out: &mut [u32]) -> bool
+    ensures { result ≡ true → NumbersTaken (R.remaining from.old) (R.remaining from.new) out.new }
+{
     for cell in out.iter_mut() {
         let Next::Number(x) = next_number(from) else {
             return false;
@@ -67,7 +71,8 @@ pub fn read_numbers<R: Read>(from: &mut R, out: &mut [u32]) -> bool {
 
 // A list is a count and that many numbers.
 pub fn read_list<R: Read>(from: &mut R, out: &mut [u32]) -> Got
-    ensures { GotWithin result (length out.new) }
+    ensures within { GotWithin result (length out.new) }
+    ensures cells { ListTaken (R.remaining from.old) (R.remaining from.new) result out.new }
 {
     let head = next_number(from);
     let Next::Number(count) = head else {
@@ -86,7 +91,8 @@ pub fn read_list<R: Read>(from: &mut R, out: &mut [u32]) -> Got
 
 // The bytes of a case whose length is known; one that is longer than the buffer counts as cut.
 fn read_sheet<R: Read>(from: &mut R, buf: &mut [u8], n: usize) -> Case
-    ensures { CaseWithin result (length buf.new) }
+    ensures within { CaseWithin result (length buf.new) }
+    ensures bytes { SheetTaken (R.remaining from.old) (R.remaining from.new) result n buf.new }
 {
     if buf.len() < n {
         return Case::Cut;
@@ -101,7 +107,8 @@ fn read_sheet<R: Read>(from: &mut R, buf: &mut [u8], n: usize) -> Case
 
 // A case is a length and that many bytes.
 pub fn read_case<R: Read>(from: &mut R, buf: &mut [u8]) -> Case
-    ensures { CaseWithin result (length buf.new) }
+    ensures within { CaseWithin result (length buf.new) }
+    ensures bytes { CaseTaken (R.remaining from.old) (R.remaining from.new) result buf.new }
 {
     match next_number(from) {
         Next::Number(n) => read_sheet(from, buf, n as usize),

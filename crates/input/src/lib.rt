@@ -2,7 +2,7 @@
 #![tactic(auto)]
 
 ghost use Rattle.std.specs.Prelude.{length};
-ghost use Rattle.input.specs.Input.{Within};
+ghost use Rattle.input.specs.Input.{Within, Taken};
 
 use std::io::{Error, ErrorKind, Read};
 use std::rt::Files;
@@ -17,9 +17,10 @@ pub enum Input {
     Failed(Error),
 }
 
-// What an open input holds, piece by piece, until it ends or the buffer is full.
+// What an open input has, piece by piece, until it ends or the buffer is full.
 pub fn read_all<R: Read>(from: &mut R, buf: &mut [u8]) -> Input
-    ensures { Within result (length buf.new) }
+    ensures within { Within result (length buf.new) }
+    ensures bytes { Taken (R.remaining from.old) (R.remaining from.new) result buf.new }
 {
     let mut n = 0;
     while n < buf.len() {
