@@ -8,7 +8,7 @@ use Rattle.mend.proofs.note.Statement.{statement}
 use Rattle.mend.proofs.note.Tie as tie
 
 other : (c : tie.Else-new-old) → c.args.old ≡ c.args.new → ⊥
-other c e = c.if-new-old.false (sym e)
+other c e = omega (arith, c.if-new-old.false)
 
 -- there is a change to note
 one : (c : tie.Else-new-old) → notes c.args.old c.args.new ≡ 1
