@@ -230,6 +230,7 @@ fn slot(hour: u32) -> usize
 }
 
 // Enters an hour, replacing one held.
+#[tactic(auto, using(crate::proofs::Laws::slot_within))]
 pub fn enter(
     book: &mut Book,
     hour: u32,
@@ -258,6 +259,7 @@ pub fn enter(
 }
 
 // Removes an hour.
+#[tactic(auto, using(crate::proofs::Laws::slot_within))]
 pub fn remove(book: &mut Book, hour: u32) -> Verdict
     requires { Kept book.old }
     ensures { Does (slot_verdict hour) (removed book.old hour) result book.new }

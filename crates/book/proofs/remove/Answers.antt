@@ -5,21 +5,9 @@ use Rattle.book.specs.Told.{slot_of}
 use Rattle.book.proofs.Laws.{kept_carries, slot_within, told_does, fine_hour}
 use Rattle.book.proofs.remove.Goals as goal
 
-pub offset_bounds-book-at : goal.offset_bounds-book-at
-offset_bounds-book-at c = let l = slot_within c.args.hour in omega (arith, c.slot-at.ensures)
-
-pub bounds-book-at : goal.bounds-book-at
-bounds-book-at c = let l = slot_within c.args.hour in omega (arith, c.slot-at.ensures)
-
 pub removing-told-requires : goal.removing-told-requires
 removing-told-requires c =
     rw c.slot-at.ensures (kept_carries c.args.book.now c.requires (slot_of c.args.hour) (slot_within c.args.hour))
-
-pub offset_bounds-book-at-2 : goal.offset_bounds-book-at-2
-offset_bounds-book-at-2 c = let l = slot_within c.args.hour in omega (arith, c.slot-at.ensures)
-
-pub bounds-book-at-2 : goal.bounds-book-at-2
-bounds-book-at-2 c = let l = slot_within c.args.hour in omega (arith, c.slot-at.ensures)
 
 pub returns : goal.returns
 returns c =
