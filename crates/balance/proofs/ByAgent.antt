@@ -1,4 +1,5 @@
 -- What the code has read, agent by agent, is what the definitions say. Assumes nothing.
+use Rattle.std.specs.Prelude.{Option}
 use Prim.Native.Nat.{ℕ, ◌+◌, ◌-◌, ◌≤◌, ◌<◌}
 use native.Mathlib.Omega.{arith}
 use mathlib.Core.Bool.{◌&&◌, not}
@@ -9,7 +10,7 @@ use lib.ListN.{length, take}
 use Rattle.sums.specs.Sums.{sum, first, pick}
 use Rattle.sums.specs.Lists.{at, Filled}
 use Rattle.sums.proofs.Fill.{filled_count, filled_by, filled_front}
-use Rattle.refusals.specs.declared.Verdict.{Verdict}
+use Rattle.refusals.specs.Refusals.{Verdict}
 use Rattle.share.specs.Share.{share_of, Shared}
 use Rattle.share.proofs.Laws.{share_fine}
 use Rattle.limits.specs.Limits.{most_agents}
@@ -22,7 +23,8 @@ use Rattle.hour.specs.Balance.{rounded, imported, exported, consumption, consume
 use Rattle.hour.specs.Balance.{leaving, losses, loss_share, commercial, hour_demand, injected, small_exports, dispatch_demand}
 use Rattle.hour.specs.Answer.{first_over, balance_verdict}
 use Rattle.hour.proofs.Demand.{weights_long, small_metered}
-use Rattle.balance.specs.Parts.{weighed_by}
+use Rattle.balance.specs.Parts.{found, weighed_by}
+use Rattle.balance.proofs.Found.{found_verdict}
 
 -- ---- the columns, taken together
 module _ (h : Sheet) (n : ℕ) (e : agents h ≡ n) where
@@ -51,14 +53,14 @@ module _ (h : Sheet) (n : ℕ) (e : agents h ≡ n) where
   leaving_is = rw e (sym (sum_add n (consumption h) (own_import h)))
 
   -- the verdict by those numbers is the sheet's
-  pub verdict_is : (over x y u : ℕ)
-      → over ≡ first_over h
+  pub verdict_is : (over : Option ℕ) (x y u : ℕ)
+      → over ≡ found n (first_over h)
       → x ≡ entering h
       → y ≡ leaving h
       → u ≡ consumed h
-      → weighed_by n over x y u ≡ balance_verdict h
+      → weighed_by over x y u ≡ balance_verdict h
   unfolding balance_verdict losses
-  verdict_is over x y u p q r t = rw (p, q, r, t, sym e)
+  verdict_is over x y u p q r t = rw (p, q, r, t) (rw (found_verdict n (first_over h), sym e))
 
 -- ---- one agent
 module _ (h : Sheet) (a k x y : ℕ) (p : k ≡ at h.kinds a) (q : x ≡ imported h a) where

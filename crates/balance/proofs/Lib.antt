@@ -1,2 +1,5 @@
 pub mod Rows
 pub mod ByAgent
+pub mod Found
+pub mod Agents
+pub mod Weighed

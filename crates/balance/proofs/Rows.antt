@@ -1,5 +1,6 @@
 -- What the agents' and boundary rows of an accepted sheet hold, read from their sections, and the sums of the readings by agent.
 -- Assumes nothing.
+use Rattle.std.specs.Prelude.{Ok}
 use Prim.Native.Nat.{ℕ, ◌*◌, ◌≤◌, ◌<◌}
 use native.Mathlib.Omega.{arith}
 use mathlib.Core.List.{List}
@@ -14,7 +15,6 @@ use Rattle.octets.specs.declared.Words.{Words}
 use Rattle.limits.specs.declared.Boundary.{Boundary}
 use Rattle.sheet.specs.Reading.{read_of}
 use Rattle.sheet.specs.Asking.{boundary_at, section_of}
-use Rattle.sheet.specs.declared.Reading.{Reading}
 use Rattle.sheet.specs.declared.Counts.{Counts}
 use Rattle.sheet.proofs.Accepted.{accepted_few, accepted_boundary}
 use Rattle.sheet.proofs.Sections.{agent_row, boundary_row}
@@ -42,7 +42,7 @@ pub record RowSound (b : Boundary) : Type 0 where
   pub import : b.import ≤ most_reading
   pub export : b.export ≤ most_reading
 
-module _ (s : List ℕ) (c : Counts) (e : read_of s ≡ Reading.Accepted c) where
+module _ (s : List ℕ) (c : Counts) (e : read_of s ≡ Ok c) where
   -- the agents' section has the column of kinds
   pub kind_is : (b : List ℕ) → b ≡ section_of s c 1 → (a : ℕ) → a < c.agents → (agent_of (words_at b a)).kind ≡ at (columns_of s c).kinds a
   kind_is b is a l =

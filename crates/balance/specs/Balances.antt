@@ -1,9 +1,10 @@
 -- Document 01, 'From readings to commercial demand': what weighing the readings of a sheet answers. Assumes nothing.
+use Rattle.std.specs.Prelude.{Result, Ok, Err}
 use Rattle.std.specs.Prelude.{ℕ, ◌+◌, List, ◌≡◌, replicate}
 use Rattle.limits.specs.Limits.{most_agents}
 use Rattle.sums.specs.Lists.{at, Filled}
-use Rattle.refusals.specs.Refusals.{cells}
-use Rattle.refusals.specs.declared.Verdict.{Verdict}
+use Rattle.refusals.specs.Refusals.{Verdict}
+use Rattle.refusals.specs.declared.Refusal.{Refusal}
 use Rattle.hour.specs.Sheet.{Sheet, agents}
 use Rattle.hour.specs.Balance.{own_import, losses, loss_share, commercial, hour_demand, injected, dispatch_demand}
 use Rattle.balance.specs.declared.Weight.{Weight}
@@ -35,11 +36,13 @@ pub record Posted (h : Sheet) (before after : Ledger) : Type 0 where
   pub own : Filled 0 before.own after.own (agents h) (unscheduled h)
   pub imports : Filled 0 before.imports after.imports (agents h) (own_import h)
 
--- the promise of weighing the sheet h, by its verdict v: the verdict; the losses, the hour's demand and what central dispatch has to meet
--- of it, 0 where it is refused; and where it is fine the columns
-pub record Weighing (v : Verdict) (h : Sheet) (before after : Ledger) (r : Weight) : Type 0 where
-  pub answer : r.verdict ≡ v
-  pub losses : r.losses ≡ cells v (losses h)
-  pub demand : r.demand ≡ cells v (hour_demand h)
-  pub target : r.target ≡ cells v (dispatch_demand h)
-  pub columns : v ≡ Verdict.Fine → Posted h before after
+-- what is answered of the sheet h, by its verdict: the losses, the hour's demand and what central dispatch has to meet of it; or the
+-- refusal
+abbrev pub weighed : Verdict → Sheet → Result Weight Refusal
+weighed (Ok tt) h = Ok (record { losses = losses h; demand = hour_demand h; target = dispatch_demand h })
+weighed (Err r) h = Err r
+
+-- the promise of weighing the sheet h, by its verdict v: what is answered, and where it is fine the columns
+pub record Weighing (v : Verdict) (h : Sheet) (before after : Ledger) (r : Result Weight Refusal) : Type 0 where
+  pub answer : r ≡ weighed v h
+  pub columns : v ≡ Ok tt → Posted h before after

@@ -1,7 +1,7 @@
 -- What the parts of weighing hand on to each other. Assumes nothing.
-use Rattle.std.specs.Prelude.{ℕ, ◌+◌, ◌-◌, ◌*◌, ◌≤◌, ◌<◌, ◌||◌, List, [], ◌∷◌, ◌≡◌, ltb, leb, eqb}
-use Rattle.refusals.specs.Refusals.{bad_exports, bad_gain, unshared, refused_unless, first_of}
-use Rattle.refusals.specs.declared.Verdict.{Verdict}
+use Rattle.std.specs.Prelude.{ℕ, ◌+◌, ◌-◌, ◌*◌, ◌≤◌, ◌<◌, ◌||◌, List, [], ◌∷◌, ◌≡◌, ltb, leb, eqb, Option, Some, None, Ok, if◌then◌else◌}
+use Rattle.refusals.specs.Refusals.{bad_exports, bad_gain, unshared, refused, refused_unless, first_of}
+use Rattle.refusals.specs.Refusals.{Verdict}
 use Rattle.limits.specs.Limits.{most_agents, most_boundaries, most_reading, most_factor}
 use Rattle.sums.specs.Sums.{sum, pick}
 use Rattle.sums.specs.Lists.{at, Filled}
@@ -16,6 +16,10 @@ use Rattle.balance.specs.declared.Demanded.{Demanded}
 abbrev pub most_exact : ℕ
 most_exact = most_boundaries * (most_reading * (10000 + most_factor))
 
+-- what a search among n finds, from the place that `first` names
+abbrev pub found : ℕ → ℕ → Option ℕ
+found n k = if ltb k n then Some k else None
+
 -- what each agent took and delivered in ten-thousandths, all its rows together
 pub record Metered (h : Sheet) (imports exports : List ℕ) : Type 0 where
   pub took : (a : ℕ) → a < most_agents → at imports a ≡ imported h a
@@ -28,7 +32,7 @@ pub record Read (h : Sheet) (n : ℕ) (k₀ k t₀ t g₀ g u₀ u : List ℕ) (
   pub taken : Filled 0 t₀ t n (own_import h)
   pub given : Filled 0 g₀ g n (delivered h)
   pub used : Filled 0 u₀ u n (consumption h)
-  pub over : r.over ≡ first_over h
+  pub over : r.over ≡ found n (first_over h)
   pub entering : r.entering ≡ entering h
   pub consumed : r.consumed ≡ consumed h
   pub drawn : r.drawn ≡ sum n (own_import h)
@@ -53,10 +57,14 @@ pub record WithShares (kinds shares : List ℕ) (n : ℕ) (c₀ c o₀ o : List 
   pub all : r.all ≡ sum n (with_share c₀ shares)
   pub small : r.small ≡ sum n (of_small kinds o₀)
 
--- refusals 7 to 9 by the numbers that they are judged by
-abbrev pub weighed_by : (n over entering leaving consumed : ℕ) → Verdict
-weighed_by n o e l u =
-    first_of (refused_unless (leb n o) bad_exports o
+-- refusals 7 to 9 by what they are judged by
+abbrev pub over_verdict : Option ℕ → Verdict
+over_verdict None = Ok tt
+over_verdict (Some a) = refused bad_exports a
+
+abbrev pub weighed_by : (over : Option ℕ) (entering leaving consumed : ℕ) → Verdict
+weighed_by o e l u =
+    first_of (over_verdict o
     ∷ refused_unless (leb l e) bad_gain 0
     ∷ refused_unless (eqb (e - l) 0 || ltb 0 u) unshared 0
     ∷ [])

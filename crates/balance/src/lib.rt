@@ -1,28 +1,25 @@
 // From readings to commercial demand: what each agent took and delivered, what was lost on the way, and who carries it.
 #![tactic(auto)]
 
-ghost use Rattle.std.specs.Prelude.{◌≡◌, false, ◌&&◌, ◌||◌, not, ℕ, ◌+◌, ◌-◌, ◌≤◌, ◌<◌, ltb, eqb, length, take, set};
+ghost use Rattle.std.specs.Prelude.{◌≡◌, false, ◌&&◌, ◌||◌, not, ℕ, ◌+◌, ◌-◌, ◌≤◌, ◌<◌, ltb, eqb, length, set, IfSome};
 ghost use Rattle.sums.specs.Sums.{pick, first};
 ghost use Rattle.sums.specs.Lists.{at};
 ghost use Rattle.limits.specs.Limits.{most_agents, most_factor, most_reading};
 ghost use Rattle.rows.specs.Rows.{carries_losses, is_outside};
 ghost use Rattle.sheet.specs.Reading.{read_of};
-ghost use Rattle.sheet.specs.declared.Reading.{Reading};
 ghost use Rattle.columns.specs.Columns.{columns_of};
-ghost use Rattle.share.specs.Share.{Shared};
 ghost use Rattle.hour.specs.Balance.{referred, rounded};
 ghost use Rattle.hour.specs.Answer.{balance_verdict};
 ghost use Rattle.balance.specs.Balances.{zeros, ledger, Weighing};
-ghost use Rattle.balance.specs.Parts.{most_exact, Metered, Read, SharesFit, WithShares, weighed_by};
+ghost use Rattle.balance.specs.Parts.{most_exact, Metered, Read, SharesFit, WithShares, found, weighed_by};
 
 use limits::{Agent, Boundary};
 use refusals::{Refusal, Verdict};
 use sheet::Counts;
 
-// What weighing answers beside the columns. A refused sheet has 0.
+// What weighing answers beside the columns.
 #[derive(Clone, Copy)]
 pub struct Weight {
-    pub verdict: Verdict,
     pub losses: u32,
     pub demand: u32,
     // What central dispatch has to meet of the demand.
@@ -30,14 +27,16 @@ pub struct Weight {
 }
 
 // One reading, referred: exact ten-thousandths.
+#[tactic(auto, unfolding(hour::specs::Balance::referred))]
 fn refer(reading: u32, factor: u32) -> u64
     requires { (reading ≤ most_reading) × (factor ≤ most_factor) }
     ensures { result ≡ referred reading factor }
 {
-    sums::wide(reading) * sums::wide(10000 + factor)
+    u64::from(reading) * u64::from(10000 + factor)
 }
 
 // Ten-thousandths as whole kWh, half upwards.
+#[tactic(auto, unfolding(hour::specs::Balance::rounded))]
 fn to_whole(x: u64) -> u32
     requires { x ≤ most_exact }
     ensures { result ≡ rounded x }
@@ -45,36 +44,27 @@ fn to_whole(x: u64) -> u32
     ((x + 5000) / 10000) as u32
 }
 
-// x less y, not below 0.
-fn less(x: u64, y: u64) -> u64
-    ensures { result ≡ x - y }
-{
-    if x < y { 0 } else { x - y }
-}
-
 // One reading more in the cell of its agent.
+#[tactic(auto, using(hour::proofs::Bounds::referred_le))]
 fn add_reading(out: &mut [u64], a: usize, reading: u32, factor: u32)
     requires { (a < length out.old) × (at out.old a ≤ most_exact) × (reading ≤ most_reading) × (factor ≤ most_factor) }
     ensures { out.new ≡ set out.old a (at out.old a + referred reading factor) }
 {
-    out[a] = out[a] + refer(reading, factor);
+    out[a] += refer(reading, factor);
 }
 
 // What each agent took and delivered, in ten-thousandths: one pass over the boundary rows.
 fn meter(s: &[u8], c: Counts, imports: &mut [u64], exports: &mut [u64])
-    requires s_value { read_of s.now ≡ Reading.Accepted c }
+    requires s_value { read_of s.now ≡ Ok c }
     requires imports_value { (imports.old ≡ zeros) × (exports.old ≡ zeros) }
     ensures { Metered (columns_of s.now c) imports.new exports.new }
 {
     let section = sheet::asking::section_of(s, c, Boundary::SECTION);
-    let n = c.boundaries;
-    let mut j = 0;
-    while j < n {
+    for j in 0..c.boundaries {
         let b = rows::boundary_of(octets::row_at(section, j));
         let a = b.agent as usize;
         add_reading(imports, a, b.import, b.factor);
         add_reading(exports, a, b.export, b.factor);
-        j += 1;
     }
 }
 
@@ -89,6 +79,7 @@ struct Whole {
 }
 
 // A retailer's imports less its exports, rounded once; a generator's each by itself.
+#[tactic(auto, unfolding(sums::specs::Sums::pick))]
 fn whole_of(kind: u32, import: u64, export: u64) -> Whole
     requires { (import ≤ most_exact) × (export ≤ most_exact) }
     ensures { (result.taken ≡ pick (not (carries_losses kind)) (rounded import))
@@ -100,7 +91,7 @@ fn whole_of(kind: u32, import: u64, export: u64) -> Whole
         return Whole {
             taken: 0,
             given: 0,
-            used: to_whole(less(import, export)),
+            used: to_whole(import.saturating_sub(export)),
             over: import < export,
         };
     }
@@ -113,18 +104,11 @@ fn whole_of(kind: u32, import: u64, export: u64) -> Whole
 }
 
 // v of a small generator, 0 of any other agent.
+#[tactic(auto, unfolding(sums::specs::Sums::pick))]
 fn of_small(kind: u32, v: u32) -> u32
     ensures { result ≡ pick (is_outside kind) v }
 {
     if rows::is_outside(kind) { v } else { 0 }
-}
-
-// An amount over the first n cells of a column.
-fn share_out(amount: u32, weights: &[u32], n: usize, out: &mut [u32]) -> Verdict
-    requires { n ≤ length weights.now }
-    ensures { Shared amount (take n weights.now) out.old result out.new }
-{
-    share::share(amount, &weights[..n], out)
 }
 
 // A retailer that delivers more than it takes.
@@ -134,25 +118,23 @@ fn is_over(kind: u32, import: u64, export: u64) -> bool
     rows::carries_losses(kind) & (import < export)
 }
 
-// The lowest such agent, or n.
+// The lowest such agent.
 fn first_over<'a>(
     kinds: &[u32],
     imports: &'a [u64; Agent::MOST],
     exports: &'a [u64; Agent::MOST],
     n: usize,
-) -> usize
+) -> Option<usize>
     requires { (n ≤ most_agents) × (n ≤ length kinds.now) }
-    ensures { result ≡ first n
-        (λ a. carries_losses (at kinds.now a) && ltb (at imports.now a) (at exports.now a)) }
+    ensures { result ≡ found n (first n
+        (λ a. carries_losses (at kinds.now a) && ltb (at imports.now a) (at exports.now a))) }
 {
-    let mut a = 0;
-    while a < n {
+    for a in 0..n {
         if is_over(kinds[a], imports[a], exports[a]) {
-            return a;
+            return Some(a);
         }
-        a += 1;
     }
-    n
+    None
 }
 
 // The same, looked for only where there is any.
@@ -162,16 +144,17 @@ fn first_if<'a>(
     imports: &'a [u64; Agent::MOST],
     exports: &'a [u64; Agent::MOST],
     n: usize,
-) -> usize
+) -> Option<usize>
     requires { (n ≤ most_agents) × (n ≤ length kinds.now) × (any ≡ false → (a : ℕ) → a < n
         → (carries_losses (at kinds.now a) && ltb (at imports.now a) (at exports.now a)) ≡ false) }
-    ensures { result ≡ first n
-        (λ a. carries_losses (at kinds.now a) && ltb (at imports.now a) (at exports.now a)) }
+    ensures { result ≡ found n (first n
+        (λ a. carries_losses (at kinds.now a) && ltb (at imports.now a) (at exports.now a))) }
 {
     if any {
-        return first_over(kinds, imports, exports, n);
+        first_over(kinds, imports, exports, n)
+    } else {
+        None
     }
-    n
 }
 
 // Nothing is lost, or there is somebody to carry it.
@@ -182,27 +165,27 @@ fn carried(losses: u32, consumed: u32) -> bool
 }
 
 // Refusals 7 to 9, in this order.
-fn judge(over: usize, n: usize, entering: u32, leaving: u32, consumed: u32) -> Verdict
-    requires { n ≤ most_agents }
-    ensures { result ≡ weighed_by n over entering leaving consumed }
+fn judge(over: Option<usize>, entering: u32, leaving: u32, consumed: u32) -> Verdict
+    requires { IfSome over (λ a. a < most_agents) }
+    ensures { result ≡ weighed_by over entering leaving consumed }
 {
-    if over < n {
-        return refusals::refuse(Refusal::EXPORTS, over as u32);
+    if let Some(a) = over {
+        return refusals::refuse(Refusal::EXPORTS, a as u32);
     }
     if entering < leaving {
         return refusals::refuse(Refusal::GAIN, 0);
     }
     if carried(entering - leaving, consumed) {
-        return Verdict::Fine;
+        return Ok(());
     }
     refusals::refuse(Refusal::UNSHARED, 0)
 }
 
-// What all agents come to: the first retailer that delivers more than it takes, or how many agents there are; the energy that enters the
-// system, what retailers consumed, and what generators took.
+// What all agents come to: the first retailer that delivers more than it takes; the energy that enters the system, what retailers
+// consumed, and what generators took.
 #[derive(Clone, Copy)]
 struct Metering {
-    over: usize,
+    over: Option<usize>,
     entering: u32,
     consumed: u32,
     drawn: u32,
@@ -219,7 +202,7 @@ fn sort_out<'a>(
     given: &mut [u32],
     used: &mut [u32],
 ) -> Metering
-    requires s_value { read_of s.now ≡ Reading.Accepted c }
+    requires s_value { read_of s.now ≡ Ok c }
     requires metered { Metered (columns_of s.now c) imports.now exports.now × (c.agents ≤ length kinds.old)
         × (c.agents ≤ length taken.old) × (c.agents ≤ length given.old) × (c.agents ≤ length used.old) }
     ensures { Read (columns_of s.now c) c.agents kinds.old kinds.new
@@ -231,19 +214,17 @@ fn sort_out<'a>(
     let mut entering: u32 = 0;
     let mut consumed: u32 = 0;
     let mut drawn: u32 = 0;
-    let mut a = 0;
-    while a < n {
+    for a in 0..n {
         let kind = rows::agent_of(octets::row_at(section, a)).kind;
         let w = whole_of(kind, imports[a], exports[a]);
         kinds[a] = kind;
         taken[a] = w.taken;
         given[a] = w.given;
         used[a] = w.used;
-        any = any | w.over;
+        any |= w.over;
         entering += w.given;
         consumed += w.used;
         drawn += w.taken;
-        a += 1;
     }
     Metering {
         over: first_if(any, kinds, imports, exports, n),
@@ -262,7 +243,7 @@ fn read_columns(
     given: &mut [u32; Agent::MOST],
     used: &mut [u32; Agent::MOST],
 ) -> Metering
-    requires { read_of s.now ≡ Reading.Accepted c }
+    requires { read_of s.now ≡ Ok c }
     ensures { Read (columns_of s.now c) c.agents kinds.old kinds.new
         taken.old taken.new given.old given.new used.old used.new result }
 {
@@ -295,15 +276,13 @@ fn add_shares(
 {
     let mut all: u32 = 0;
     let mut small: u32 = 0;
-    let mut a = 0;
-    while a < n {
+    for a in 0..n {
         let demand = commercial[a] + shares[a];
         let delivered = of_small(kinds[a], own[a]);
         commercial[a] = demand;
         own[a] = demand + delivered;
         all += demand;
         small += delivered;
-        a += 1;
     }
     Demanded { all, small }
 }
@@ -318,8 +297,8 @@ pub fn weigh_read(
     commercial: &mut [u32; Agent::MOST],
     own: &mut [u32; Agent::MOST],
     imports: &mut [u32; Agent::MOST],
-) -> Weight
-    requires { read_of s.now ≡ Reading.Accepted c }
+) -> Result<Weight, Refusal>
+    requires { read_of s.now ≡ Ok c }
     ensures { Weighing (balance_verdict (columns_of s.now c)) (columns_of s.now c)
         (ledger kinds.old shares.old commercial.old own.old imports.old)
         (ledger kinds.new shares.new commercial.new own.new imports.new) result }
@@ -327,23 +306,14 @@ pub fn weigh_read(
     let n = c.agents;
     let m = read_columns(s, c, kinds, imports, own, commercial);
     let leaving = m.consumed + m.drawn;
-    let verdict = judge(m.over, n, m.entering, leaving, m.consumed);
-    let Verdict::Fine = verdict else {
-        return Weight {
-            verdict,
-            losses: 0,
-            demand: 0,
-            target: 0,
-        };
-    };
+    judge(m.over, m.entering, leaving, m.consumed)?;
     let losses = m.entering - leaving;
-    share_out(losses, commercial, n, shares);
+    let _ = share::share(losses, &commercial[..n], shares);
     let d = add_shares(kinds, shares, n, commercial, own);
     let demand = d.all + m.drawn;
-    Weight {
-        verdict,
+    Ok(Weight {
         losses,
         demand,
         target: demand - d.small,
-    }
+    })
 }

@@ -1,5 +1,6 @@
 -- What the code of a day's book rests on: the totals of a book that came from the library's own calls hold what each place has, and
 -- have room for what a place may have. Assumes nothing.
+use Rattle.std.specs.Prelude.{Ok, Err}
 use Prim.Native.Nat.{ℕ, ◌*◌, ◌<◌, ◌≤◌}
 use native.Mathlib.Nat.{mul-le-mul}
 use native.Mathlib.Omega.{arith}
@@ -13,7 +14,7 @@ use borrow.Author.Tests.{lt-ltb, ltb-true, leb-true}
 use Rattle.sums.specs.Sums.{sum}
 use Rattle.sums.proofs.Sums.{sum_term, sum_most}
 use Rattle.sums.proofs.Tests.{all_true}
-use Rattle.refusals.specs.declared.Verdict.{Verdict}
+use Rattle.refusals.specs.Refusals.{Verdict}
 use Rattle.refusals.specs.declared.Refusal.{Refusal}
 use Rattle.refusals.specs.Refusals.{not_there, over_book}
 use Rattle.refusals.proofs.Fine.{fine_left, fine_right, fine_test}
@@ -47,30 +48,30 @@ pub money_most : (p : Place) → Proper p → money_bought p ≤ most_energy * m
 money_most p w = mul-le-mul {n₂ = most_energy} {m₂ = most_hour_price} w.bought w.price
 
 -- ---- what a verdict that is fine says of the hour and of what is entered
-pub fine_hour : (h : ℕ) → slot_verdict h ≡ Verdict.Fine → h < hours
+pub fine_hour : (h : ℕ) → slot_verdict h ≡ Ok tt → h < hours
 fine_hour h e = ltb-true h hours (fine_test (ltb h hours) not_there h e)
 
-module _ (h d l b p : ℕ) (e : entry_verdict h d l b p ≡ Verdict.Fine) where
+module _ (h d l b p : ℕ) (e : entry_verdict h d l b p ≡ Ok tt) where
   pub entry_hour : h < hours
   entry_hour = fine_hour h (fine_left (slot_verdict h) _ e)
 
   pub entry_proper : Proper (holding d l b p)
   entry_proper =
       proper_held d l b p (fine_test (fits d l b p) over_book h
-      (fine_left _ Verdict.Fine (fine_right (slot_verdict h) _ e)))
+      (fine_left _ (Ok tt) (fine_right (slot_verdict h) _ e)))
 
 -- ---- what a call tells, from its verdict
 module _ (v : Verdict) (old new : Place) (t : Totals) where
   pub told_fine : (t' : Totals)
-      → v ≡ Verdict.Fine
+      → v ≡ Ok tt
       → t' ≡ moved t old new
-      → record { place = new; totals = t'; verdict = Verdict.Fine } ≡ told_of v old t new
+      → record { place = new; totals = t'; verdict = Ok tt } ≡ told_of v old t new
   unfolding told_of
   told_fine t' e m = rw (e, m)
 
   pub told_refused : (r : Refusal)
-      → v ≡ Verdict.Refused r
-      → record { place = old; totals = t; verdict = Verdict.Refused r } ≡ told_of v old t new
+      → v ≡ Err r
+      → record { place = old; totals = t; verdict = Err r } ≡ told_of v old t new
   unfolding told_of
   told_refused r e = rw e
 
@@ -121,15 +122,15 @@ module _ (b : Book) (h : ℕ) (new : Place) where
   abbrev old : Place
   old = place_at b.places (slot_of h)
 
-  pub told_does : (v : Verdict) → (v ≡ Verdict.Fine → h < hours)
+  pub told_does : (v : Verdict) → (v ≡ Ok tt → h < hours)
       → Does v (unless_refused v b (with_place b h new)) (told_of v old b.totals new).verdict
       (record {
         places = set b.places (slot_of h) (told_of v old b.totals new).place;
         totals = (told_of v old b.totals new).totals;
       })
   unfolding told_of
-  told_does Verdict.Fine w = record { answer = refl; left = rw (slot_hour h (w refl)) }
-  told_does (Verdict.Refused r) w = record {
+  told_does (Ok tt) w = record { answer = refl; left = rw (slot_hour h (w refl)) }
+  told_does (Err r) w = record {
     answer = refl;
     left = ap (λ (l : List Place). record { places = l; totals = b.totals }) (set-get_or b.places (slot_of h) blank);
   }

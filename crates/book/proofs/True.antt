@@ -1,6 +1,7 @@
 -- P8's promise: after any sequence of calls from an empty book, the totals are what a fresh sum over the places gives, and none
 -- overflows 64 bits. One place changed changes one term of each sum, so a book stays one that came from the library's own calls.
 -- Assumes nothing.
+use Rattle.std.specs.Prelude.{Ok, Err}
 use Prim.Native.Nat.{ℕ, ◌+◌, ◌-◌, ◌<◌, ◌^◌}
 use native.Mathlib.Omega.{arith}
 use native.Mathlib.Decide.{dec_lt, ℕ_discrete}
@@ -12,7 +13,7 @@ use lib.Seq.{get_or-set_same, get_or-set_other, set-get_or}
 use borrow.Author.Tests.{lt-ltb, le-ltb}
 use Rattle.sums.specs.Sums.{sum}
 use Rattle.sums.proofs.Sums.{sum_term, sum_turned, sum_zero}
-use Rattle.refusals.specs.declared.Verdict.{Verdict}
+use Rattle.refusals.specs.Refusals.{Verdict}
 use Rattle.book.specs.declared.Place.{Place}
 use Rattle.book.specs.declared.Totals.{Totals}
 use Rattle.book.specs.declared.Book.{Book}
@@ -92,9 +93,9 @@ module _ (b : Book) (k : Kept b) (h : ℕ) (p : Place) (l : h < hours) (w : Prop
   }
 
 -- ---- calls
-unless_kept : (v : Verdict) (b c : Book) → Kept b → (v ≡ Verdict.Fine → Kept c) → Kept (unless_refused v b c)
-unless_kept Verdict.Fine b c k f = f refl
-unless_kept (Verdict.Refused r) b c k f = k
+unless_kept : (v : Verdict) (b c : Book) → Kept b → (v ≡ Ok tt → Kept c) → Kept (unless_refused v b c)
+unless_kept (Ok tt) b c k f = f refl
+unless_kept (Err r) b c k f = k
 
 module _ (b : Book) (k : Kept b) where
   enter_kept : (h d l x p : ℕ) → Kept (entered b h d l x p)

@@ -1,9 +1,10 @@
 -- Document 02, P8: a day's book of 24 places, each empty or holding an hour's demand, losses, bought kWh and price, with the four
 -- day totals stored beside them. Assumes nothing.
+use Rattle.std.specs.Prelude.{Ok, Err}
 use Rattle.std.specs.Prelude.{ℕ, ◌+◌, ◌*◌, ◌-◌, ◌<◌, ◌≤◌, ◌≡◌, Bool, true, false, ◌&&◌, List, [], ◌∷◌, leb, ltb, length, get_or, set, replicate}
 use Rattle.sums.specs.Sums.{sum}
 pub use Rattle.sums.specs.Hours.{hours}
-use Rattle.refusals.specs.declared.Verdict.{Verdict}
+use Rattle.refusals.specs.Refusals.{Verdict}
 use Rattle.refusals.specs.Refusals.{first_of, refused_unless, not_there, over_book}
 use Rattle.book.specs.declared.Place.{Place}
 use Rattle.book.specs.declared.Totals.{Totals}
@@ -72,8 +73,8 @@ entry_verdict h demand losses bought price = first_of (slot_verdict h ∷ number
 
 -- the book that a call leaves: a refusal leaves it unchanged
 abbrev pub unless_refused : Verdict → (before after : Book) → Book
-unless_refused Verdict.Fine before after = after
-unless_refused (Verdict.Refused r) before after = before
+unless_refused (Ok tt) before after = after
+unless_refused (Err r) before after = before
 
 -- an hour entered (replacing one held), and an hour removed (an empty place stays as it is)
 abbrev pub entered : Book → (h demand losses bought price : ℕ) → Book

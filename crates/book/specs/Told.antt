@@ -1,6 +1,7 @@
 -- For the code alone: what a call makes of one place and of the totals, and what it asks of the two. Assumes nothing.
+use Rattle.std.specs.Prelude.{Ok, Err}
 use Rattle.std.specs.Prelude.{ℕ, ◌+◌, ◌*◌, ◌-◌, ◌<◌, ◌≤◌, ◌^◌, cond, ltb}
-use Rattle.refusals.specs.declared.Verdict.{Verdict}
+use Rattle.refusals.specs.Refusals.{Verdict}
 use Rattle.book.specs.declared.Place.{Place}
 use Rattle.book.specs.declared.Totals.{Totals}
 use Rattle.book.specs.declared.Told.{Told}
@@ -8,8 +9,8 @@ use Rattle.book.specs.Book.{hours, most_energy, most_hour_price, money_bought, m
 
 -- what a call makes of its place and of the totals, by its verdict
 unfoldable pub told_of : Verdict → (old : Place) → Totals → (new : Place) → Told
-told_of Verdict.Fine old totals new = record { place = new; totals = moved totals old new; verdict = Verdict.Fine }
-told_of (Verdict.Refused r) old totals new = record { place = old; totals = totals; verdict = Verdict.Refused r }
+told_of (Ok tt) old totals new = record { place = new; totals = moved totals old new; verdict = Ok tt }
+told_of (Err r) old totals new = record { place = old; totals = totals; verdict = Err r }
 
 -- the place that a call looks at: the hour's, and the first where there is no such hour
 unfoldable pub slot_of : ℕ → ℕ

@@ -3,16 +3,15 @@
 
 ghost use Rattle.std.specs.Prelude.{◌≡◌, ◌+◌, ◌*◌, ◌-◌};
 ghost use Rattle.refusals.specs.Refusals.{or_else};
-ghost use Rattle.refusals.specs.declared.Verdict.{Verdict};
+ghost use Rattle.refusals.specs.Refusals.{Verdict};
 ghost use Rattle.book.specs.Book.{blank, holding, moved, empty_book, fits, slot_verdict};
 ghost use Rattle.book.specs.Book.{numbers_verdict, entry_verdict, entered, removed, Kept, Does};
 ghost use Rattle.book.specs.Told.{told_of, slot_of, Turns, Room, Carries};
 
-use refusals::{Refusal, Verdict, refuse};
-use sums::wide;
+use refusals::{Refusal, Verdict, refuse_unless};
 
 // Where no hour is held, the numbers are 0.
-#[derive(Clone, Copy)]
+#[derive(Clone, Copy, Default)]
 pub struct Place {
     pub held: bool,
     pub demand: u32,
@@ -21,7 +20,7 @@ pub struct Place {
     pub price: u32,
 }
 
-#[derive(Clone, Copy)]
+#[derive(Clone, Copy, Default)]
 pub struct Totals {
     pub demand: u64,
     pub losses: u64,
@@ -54,38 +53,22 @@ pub struct Told {
 fn nothing_held() -> Place
     ensures { result ≡ blank }
 {
-    Place {
-        held: false,
-        demand: 0,
-        losses: 0,
-        bought: 0,
-        price: 0,
-    }
+    Place::default()
 }
 
 pub fn empty() -> Book
     ensures { result ≡ empty_book }
 {
-    let none = nothing_held();
-    let places = [none; 24];
-    let nothing = 0;
-    let totals = Totals {
-        demand: nothing,
-        losses: nothing,
-        bought: nothing,
-        money: nothing,
-    };
-    Book { places, totals }
+    Book {
+        places: [nothing_held(); 24],
+        totals: Totals::default(),
+    }
 }
 
 pub fn hour_verdict(hour: u32) -> Verdict
     ensures { result ≡ slot_verdict hour }
 {
-    if hour < Book::HOURS {
-        Verdict::Fine
-    } else {
-        refuse(Refusal::ASKED, hour)
-    }
+    refuse_unless(hour < Book::HOURS, Refusal::ASKED, hour)
 }
 
 // One unbranched test: no number is over its limit.
@@ -101,29 +84,22 @@ fn fitting(demand: u32, losses: u32, bought: u32, price: u32) -> bool
 fn numbers_verdict(hour: u32, demand: u32, losses: u32, bought: u32, price: u32) -> Verdict
     ensures { result ≡ numbers_verdict hour demand losses bought price }
 {
-    if fitting(demand, losses, bought, price) {
-        Verdict::Fine
-    } else {
-        refuse(Refusal::OVER_BOOK, hour)
-    }
+    let fits = fitting(demand, losses, bought, price);
+    refuse_unless(fits, Refusal::OVER_BOOK, hour)
 }
 
 // The first refusal of two.
 pub fn first(a: Verdict, b: Verdict) -> Verdict
     ensures { result ≡ or_else a b }
 {
-    match a {
-        Verdict::Fine => b,
-        Verdict::Refused(why) => Verdict::Refused(why),
-    }
+    a.and(b)
 }
 
 pub fn entry_verdict(hour: u32, demand: u32, losses: u32, bought: u32, price: u32) -> Verdict
     ensures { result ≡ entry_verdict hour demand losses bought price }
 {
-    let of_hour = hour_verdict(hour);
-    let of_numbers = numbers_verdict(hour, demand, losses, bought, price);
-    first(of_hour, of_numbers)
+    hour_verdict(hour)?;
+    numbers_verdict(hour, demand, losses, bought, price)
 }
 
 fn hour_held(demand: u32, losses: u32, bought: u32, price: u32) -> Place
@@ -141,7 +117,7 @@ fn hour_held(demand: u32, losses: u32, bought: u32, price: u32) -> Place
 fn money(bought: u32, price: u32) -> u64
     ensures { result ≡ bought * price }
 {
-    wide(bought) * wide(price)
+    u64::from(bought) * u64::from(price)
 }
 
 // A total with one part taken back and another added.
@@ -156,9 +132,9 @@ fn totals_moved(t: Totals, old: Place, new: Place) -> Totals
     requires { Room t old new }
     ensures { result ≡ moved t old new }
 {
-    let demand = turned(t.demand, wide(old.demand), wide(new.demand));
-    let losses = turned(t.losses, wide(old.losses), wide(new.losses));
-    let bought = turned(t.bought, wide(old.bought), wide(new.bought));
+    let demand = turned(t.demand, u64::from(old.demand), u64::from(new.demand));
+    let losses = turned(t.losses, u64::from(old.losses), u64::from(new.losses));
+    let bought = turned(t.bought, u64::from(old.bought), u64::from(new.bought));
     let money = turned(
         t.money,
         money(old.bought, old.price),
@@ -173,23 +149,21 @@ fn totals_moved(t: Totals, old: Place, new: Place) -> Totals
 }
 
 // A place and the totals with a new hour in the place, where the verdict is fine; a refusal is passed on, and nothing changes.
+#[tactic(auto, unfolding(crate::specs::Told::told_of))]
 fn turned_unless_refused(verdict: Verdict, old: Place, totals: Totals, new: Place) -> Told
-    requires { verdict ≡ Verdict.Fine → Room totals old new }
+    requires { verdict ≡ Ok tt → Room totals old new }
     ensures { result ≡ told_of verdict old totals new }
 {
     match verdict {
-        Verdict::Fine => {
-            let totals = totals_moved(totals, old, new);
-            Told {
-                place: new,
-                totals,
-                verdict: Verdict::Fine,
-            }
-        }
-        Verdict::Refused(why) => Told {
+        Ok(()) => Told {
+            place: new,
+            totals: totals_moved(totals, old, new),
+            verdict,
+        },
+        Err(_) => Told {
             place: old,
             totals,
-            verdict: Verdict::Refused(why),
+            verdict,
         },
     }
 }
@@ -223,6 +197,7 @@ fn removing(old: Place, totals: Totals, hour: u32) -> Told
 }
 
 // The place that a call looks at: the hour's, and the first where there is no such hour.
+#[tactic(auto, unfolding(crate::specs::Told::slot_of))]
 fn slot(hour: u32) -> usize
     ensures { result ≡ slot_of hour }
 {

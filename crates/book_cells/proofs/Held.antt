@@ -1,6 +1,7 @@
 -- A BOOK IN CELLS IS THE BOOK: after any sequence of calls on cells that were emptied, the cells are those of the book that the same calls
 -- leave from an empty one, each call answers as it does there, and the four totals are a fresh sum over the places. One place and the
 -- totals of such cells always look good, so that nothing but the book's own refusals is met. Assumes nothing.
+use Rattle.std.specs.Prelude.{Ok, Err}
 use Prim.Native.Nat.{ℕ, ◌+◌, ◌*◌, ◌<◌, ◌≤◌}
 use native.Mathlib.Omega.{arith}
 use native.Mathlib.Decide.{dec_lt, ℕ_discrete}
@@ -12,7 +13,7 @@ use lib.Seq.{get_or-set_same, get_or-set_other}
 use borrow.Author.Tests.{le-leb, leb-true}
 use Rattle.sums.specs.Lists.{at}
 use Rattle.sums.proofs.Fill.{filled_unique}
-use Rattle.refusals.specs.declared.Verdict.{Verdict}
+use Rattle.refusals.specs.Refusals.{Verdict}
 use Rattle.refusals.proofs.Fine.{fine_test}
 use Rattle.book.specs.Book.{hours, most_energy, most_hour_price, blank, holding, place_at, money_bought, fresh, empty_book}
 use Rattle.book.specs.Book.{moved, with_place, slot_verdict, entry_verdict, unless_refused, entered, removed, Kept}
@@ -48,7 +49,7 @@ pub record Holds (cs : List ℕ) (b : Book) : Type 0 where
   pub totals : HoldsTotals cs b.totals
 
 -- ---- an empty book
-pub emptied_holds : (l cs : List ℕ) → Emptied l Verdict.Fine cs → Holds cs empty_book
+pub emptied_holds : (l cs : List ℕ) → Emptied l (Ok tt) cs → Holds cs empty_book
 emptied_holds l cs e =
     let fine = sym e.answer in
     let room = leb_says fine in
@@ -72,7 +73,7 @@ emptied_holds l cs e =
       };
     }
   where
-    leb_says : room_for l ≡ Verdict.Fine → all_cells ≤ length l
+    leb_says : room_for l ≡ Ok tt → all_cells ≤ length l
     leb_says f = leb-true all_cells (length l) (fine_test _ _ _ f)
 
 -- ---- one place changed
@@ -214,14 +215,14 @@ module _ (cs : List ℕ) (b : Book) (kept : Kept b) (holds : Holds cs b) where
 
   -- a call on the cells is that call on the book
   left_holds : (v : Verdict) (h : ℕ) (p : Place) (cs' : List ℕ)
-      → (v ≡ Verdict.Fine → h < hours)
+      → (v ≡ Ok tt → h < hours)
       → cs' ≡ unless_refused_cells v cs (with_place_cells cs h p)
       → Holds cs' (unless_refused v b (with_place b h p))
-  left_holds Verdict.Fine h p cs' w e = rw e (turned_holds cs b holds kept.long h (w refl) p)
-  left_holds (Verdict.Refused q) h p cs' w e = rw e holds
+  left_holds (Ok tt) h p cs' w e = rw e (turned_holds cs b holds kept.long h (w refl) p)
+  left_holds (Err q) h p cs' w e = rw e holds
 
   does_hold : (v : Verdict) (h : ℕ) (p : Place) (r : Verdict) (cs' : List ℕ)
-      → (v ≡ Verdict.Fine → h < hours)
+      → (v ≡ Ok tt → h < hours)
       → CellsDo (cells_verdict cs h v) (with_place_cells cs h p) cs r cs'
       → (r ≡ v) × Holds cs' (unless_refused v b (with_place b h p))
   does_hold v h p r cs' w does =
@@ -265,7 +266,7 @@ ran_holds [] cs end b e k w = subst (λ (m : List ℕ). Holds m b) e w
 ran_holds (c ∷ calls) cs end b (mid, (d, r)) k w =
     ran_holds calls mid end (called b c) r (called_kept b c k) (done_holds cs mid b c k w d)
 
-module _ (l cs end : List ℕ) (calls : List Call) (emptied : Emptied l Verdict.Fine cs) (ran : Ran cs calls end) where
+module _ (l cs end : List ℕ) (calls : List Call) (emptied : Emptied l (Ok tt) cs) (ran : Ran cs calls end) where
   -- the cells are those of the book that the same calls leave
   pub cells_hold : Holds end (after empty_book calls)
   cells_hold = ran_holds calls cs end empty_book ran empty_kept (emptied_holds l cs emptied)

@@ -1,8 +1,9 @@
 -- What one place and the totals show, as facts both ways, and the verdict of a call. Assumes nothing.
+use Rattle.std.specs.Prelude.{Ok, Err}
 use Prim.Native.Nat.{ℕ, ◌+◌, ◌*◌, ◌≤◌, ◌<◌, ◌^◌}
 use native.Mathlib.Omega.{arith}
 use native.Mathlib.Nat.{mul-le-mul}
-use mathlib.Core.Bool.{Bool, true, false, ◌&&◌}
+use mathlib.Core.Bool.{true, ◌&&◌}
 use mathlib.Core.List.{List, [], ◌∷◌}
 use mathlib.Core.Path.{◌≡◌, refl}
 use lib.Dec.{leb}
@@ -10,9 +11,8 @@ use lib.ListN.{length}
 use borrow.Author.Tests.{leb-true, le-leb}
 use Rattle.sums.specs.Lists.{at}
 use Rattle.sums.proofs.Tests.{all_true, and_left, and_right}
-use Rattle.refusals.specs.Refusals.{or_else}
-use Rattle.refusals.specs.declared.Verdict.{Verdict}
-use Rattle.refusals.proofs.Fine.{else_fine, fine_parts, fine_test}
+use Rattle.refusals.specs.Refusals.{Verdict}
+use Rattle.refusals.proofs.Fine.{fine_parts, fine_test}
 use Rattle.book.specs.Book.{most_energy, most_hour_price, fits}
 use Rattle.book_cells.specs.Cells.{cells_per_place, totals_start, all_cells, shaped, carried, day_energy}
 use Rattle.book_cells.specs.Cells.{day_money, day_good, looked_good, room_for, looked_verdict, cells_verdict}
@@ -51,6 +51,9 @@ money_fits d l b p w =
     mul-le-mul {n₂ = most_energy} {m₂ = most_hour_price} w.bought w.price in
     omega arith
 
+-- what the limits of a place say of its numbers
+pub ruleset limits = (fits_says, money_fits)
+
 -- the place at cell s, with what the totals hold of it
 pub record Looked (cs : List ℕ) (s : ℕ) : Type 0 where
   pub fits : Fits (at cs (s + 1)) (at cs (s + 2)) (at cs (s + 3)) (at cs (s + 4))
@@ -83,34 +86,14 @@ looked_says cs h e =
       money = carried_says _ _ _ m';
     }
 
--- ---- the test by its parts: s is the place's first cell, and its five cells are held, d, l, b and p
-module _ (cs : List ℕ) (h s held d l b p : ℕ) (es : s ≡ cells_per_place * h) (eh : held ≡ at cs s)
-    (ed : d ≡ at cs (s + 1))
-    (el : l ≡ at cs (s + 2)) (eb : b ≡ at cs (s + 3)) (ep : p ≡ at cs (s + 4)) where
-  looked_is : (fits d l b p && shaped held d l b p && day_good cs d l b (b * p)) ≡ looked_good cs h
-  unfolding looked_good
-  looked_is = rw (eh, ed, el, eb, ep, es)
-
-  pub looked_parts : (x y : Bool) → fits d l b p ≡ true → x ≡ shaped held d l b p → y ≡ day_good cs d l b (b * p)
-      → (x && y) ≡ looked_good cs h
-  looked_parts x y f e g = rw (e, g) (rw f at looked_is)
-
-  pub looked_over : fits d l b p ≡ false → false ≡ looked_good cs h
-  looked_over f = rw f at looked_is
-
 -- ---- the verdict
-pub verdict_is : (cs : List ℕ) (h : ℕ) (v : Verdict)
-    → or_else (room_for cs) (or_else v (looked_verdict cs h)) ≡ cells_verdict cs h v
-unfolding cells_verdict
-verdict_is cs h v = rw (else_fine (looked_verdict cs h))
-
 -- where it is fine, there is room, the book itself is fine with it, and the cells look good
 pub record Allowed (cs : List ℕ) (h : ℕ) (v : Verdict) : Type 0 where
   pub room : all_cells ≤ length cs
-  pub own : v ≡ Verdict.Fine
+  pub own : v ≡ Ok tt
   pub looked : looked_good cs h ≡ true
 
-pub fine_allowed : (cs : List ℕ) (h : ℕ) (v : Verdict) → cells_verdict cs h v ≡ Verdict.Fine → Allowed cs h v
+pub fine_allowed : (cs : List ℕ) (h : ℕ) (v : Verdict) → cells_verdict cs h v ≡ Ok tt → Allowed cs h v
 unfolding cells_verdict
 fine_allowed cs h v e =
     let all = fine_parts (room_for cs ∷ v ∷ looked_verdict cs h ∷ []) e in
@@ -123,8 +106,8 @@ fine_allowed cs h v e =
 -- cells and the hour are fine: the answer is the book's own
 pub own_verdict : (cs : List ℕ) (h : ℕ) (v : Verdict)
     → all_cells ≤ length cs
-    → (v ≡ Verdict.Fine → looked_good cs h ≡ true)
+    → (v ≡ Ok tt → looked_good cs h ≡ true)
     → cells_verdict cs h v ≡ v
 unfolding cells_verdict
-own_verdict cs h Verdict.Fine l w = rw (le-leb all_cells (length cs) l, w refl)
-own_verdict cs h (Verdict.Refused r) l w = rw (le-leb all_cells (length cs) l)
+own_verdict cs h (Ok tt) l w = rw (le-leb all_cells (length cs) l, w refl)
+own_verdict cs h (Err r) l w = rw (le-leb all_cells (length cs) l)

@@ -1,13 +1,14 @@
--- Numbers put into a list from a place on: one more, all of them, and what stands where. Assumes nothing.
+-- Numbers put into a list from a place on, and what stands where then. Assumes nothing.
 use Prim.Native.Nat.{ℕ, ◌+◌, ◌-◌, ◌<◌, ◌≤◌}
-use native.Mathlib.Omega.{arith}
 use native.Mathlib.Decide.{dec_lt}
-use mathlib.Core.List.{List}
-use mathlib.Core.Path.{◌≡◌, refl, ◌∙◌}
-use lib.ListN.{length, set, length-set}
-use lib.Seq.{get_or-set_same, get_or-set_other}
+use mathlib.Core.List.{List, ◌++◌}
+use mathlib.Core.Path.{◌≡◌, ◌∙◌}
+use lib.ListN.{length, take, drop, replicate}
 use borrow.Author.Tests.{le-leb, lt-leb, lt-ltb, le-ltb}
-use Rattle.sums.specs.Lists.{at}
+use borrow.Rule.Slice.PartMut.{put_mid}
+use Rattle.std.proofs.Common.{arith}
+use Rattle.std.proofs.lemmas.List.{places, get_or-replicate, length-replicate, length-take-le}
+use Rattle.sums.specs.Lists.{at, Filled}
 use Rattle.sums.proofs.Lists.{length_list_to, get_d_list_to, list_to_is}
 use Rattle.book_cells.specs.Cells.{cell_with, put}
 
@@ -19,25 +20,6 @@ pub record PutTo (l after : List ℕ) (s : ℕ) (ns : List ℕ) (i : ℕ) : Type
   pub long : length after ≡ length l
 
 module _ (l : List ℕ) (s : ℕ) (ns : List ℕ) where
-  pub put_none : PutTo l l s ns 0
-  put_none = record { done = λ k h. absurd (omega arith); low = λ k h. refl; high = λ k h. refl; long = refl }
-
-  pub put_more : (after : List ℕ) (i : ℕ) → s + i < length after → PutTo l after s ns i
-      → PutTo l (set after (s + i) (at ns i)) s ns (i + 1)
-  put_more after i h p =
-      record {
-        done = λ k m. go k m (dec_lt k i);
-        low = λ k m. get_or-set_other after (s + i) k (at ns i) 0 (omega arith) ∙ p.low k m;
-        high = λ k m. get_or-set_other after (s + i) k (at ns i) 0 (omega arith) ∙ p.high k (omega arith);
-        long = length-set after (s + i) (at ns i) ∙ p.long;
-      }
-    where
-      go : (k : ℕ) → k < i + 1 → Dec (k < i) → at (set after (s + i) (at ns i)) (s + k) ≡ at ns k
-      go k m (yes q) = get_or-set_other after (s + i) (s + k) (at ns i) 0 (omega arith) ∙ p.done k q
-      go k m (no q) =
-          let e : k ≡ i = omega arith in
-          rw e (get_or-set_same after (s + i) (at ns i) 0 h)
-
   -- ---- which cell stands at k
   below : (k : ℕ) → k < s → cell_with l s ns k ≡ at l k
   below k h = rw (lt-leb s k h)
@@ -60,6 +42,17 @@ module _ (l : List ℕ) (s : ℕ) (ns : List ℕ) where
           rw (among k m b) (rw e at (p.done (k - s) (omega arith)))
       go k (no a) (no b) = let m : s + length ns ≤ k = omega arith in p.high k m ∙ rw (above k m)
 
+  -- the numbers copied over their part
+  pub put_copied : s + length ns ≤ length l → put_mid s (length ns) l ns ≡ put l s ns
+  put_copied h =
+      put_all (put_mid s (length ns) l ns)
+      (record {
+        done = λ k m. grind (arith, places);
+        low = λ k m. grind (arith, places);
+        high = λ k m. grind (arith, places);
+        long = grind (arith, places);
+      })
+
   pub put_long : length (put l s ns) ≡ length l
   unfolding put
   put_long = length_list_to (cell_with l s ns) (length l)
@@ -77,3 +70,13 @@ module _ (l : List ℕ) (s : ℕ) (ns : List ℕ) where
   pub put_high : (k : ℕ) → s + length ns ≤ k → k < length l → at (put l s ns) k ≡ at l k
   unfolding put
   put_high k h m = get_d_list_to 0 (cell_with l s ns) (length l) k m ∙ above k h
+
+-- the first n cells set to 0
+pub zeros_front : (l : List ℕ) (n : ℕ) → n ≤ length l → Filled 0 l (replicate (length (take n l)) 0 ++ drop n l) n (λ k. 0)
+zeros_front l n h =
+    rw (length-take-le n l h)
+    (record {
+      done = λ k m. grind (arith, places, get_or-replicate, length-replicate);
+      kept = λ k m. grind (arith, places, length-replicate);
+      long = grind (arith, places, length-replicate);
+    })

@@ -1,10 +1,11 @@
 -- Document 02, P8: a day's book as cells in a lent list. A place has five cells, held (1, and 0 where it is empty), demand, losses, bought
 -- and price; the 24 places stand one behind another, and behind them the totals: demand, losses, bought kWh, bought money.
 -- Assumes nothing.
+use Rattle.std.specs.Prelude.{Ok, Err}
 use Rattle.std.specs.Prelude.{ℕ, ◌+◌, ◌-◌, ◌*◌, ◌≡◌, Bool, ◌&&◌, ◌||◌, cond, List, [], ◌∷◌, leb, ltb, eqb, length}
 use Rattle.sums.specs.Lists.{at, list_to, Filled}
 use Rattle.refusals.specs.Refusals.{no_room, refused_unless, first_of, cells}
-use Rattle.refusals.specs.declared.Verdict.{Verdict}
+use Rattle.refusals.specs.Refusals.{Verdict}
 use Rattle.book.specs.Book.{hours, most_energy, most_hour_price, fits, moved}
 use Rattle.book.specs.declared.Place.{Place}
 use Rattle.book.specs.declared.Totals.{Totals}
@@ -95,8 +96,8 @@ with_place_cells l h p =
 
 -- what a call leaves: a refusal leaves the cells as they were
 abbrev pub unless_refused_cells : Verdict → (before after : List ℕ) → List ℕ
-unless_refused_cells Verdict.Fine before after = after
-unless_refused_cells (Verdict.Refused r) before after = before
+unless_refused_cells (Ok tt) before after = after
+unless_refused_cells (Err r) before after = before
 
 pub record CellsDo (v : Verdict) (new before : List ℕ) (r : Verdict) (after : List ℕ) : Type 0 where
   pub answer : r ≡ v

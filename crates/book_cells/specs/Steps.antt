@@ -1,6 +1,7 @@
 -- What the code's steps ask for: nobody need believe this page. Assumes nothing.
+use Rattle.std.specs.Prelude.{Ok}
 use Rattle.std.specs.Prelude.{ℕ, ◌≤◌, ◌<◌, true, ◌≡◌, List, length}
-use Rattle.refusals.specs.declared.Verdict.{Verdict}
+use Rattle.refusals.specs.Refusals.{Verdict}
 use Rattle.book.specs.Book.{hours, Proper}
 use Rattle.book.specs.declared.Place.{Place}
 use Rattle.book_cells.specs.Cells.{all_cells, looked_good}
@@ -14,4 +15,4 @@ pub record Turnable (l : List ℕ) (h : ℕ) (p : Place) : Type 0 where
 
 -- what a call's own verdict passes is an hour of the day, and a place within its limits
 abbrev pub OwnGood : Verdict → ℕ → Place → Type 0
-OwnGood own h p = own ≡ Verdict.Fine → (h < hours) × Proper p
+OwnGood own h p = own ≡ Ok tt → (h < hours) × Proper p

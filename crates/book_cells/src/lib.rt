@@ -6,14 +6,13 @@
 ghost use Rattle.std.specs.Prelude.{◌≡◌, ◌+◌, ◌-◌, ◌*◌, ◌≤◌, ◌^◌, ◌<◌, length};
 ghost use Rattle.sums.specs.Lists.{at};
 ghost use Rattle.book.specs.Book.{blank, holding, fits, moved, slot_verdict, entry_verdict};
-ghost use Rattle.book_cells.specs.Cells.{cells_per_place, flag_of, shaped, carried, day_good, looked_good, room_for, looked_verdict};
+ghost use Rattle.book_cells.specs.Cells.{cells_per_place, shaped, carried, day_good, looked_good, room_for, looked_verdict};
 ghost use Rattle.book_cells.specs.Cells.{cells_verdict, place_in, totals_in, put, with_place_cells, Emptied, CellsDo};
 ghost use Rattle.book.specs.Told.{Turns};
 ghost use Rattle.book_cells.specs.Steps.{Turnable, OwnGood};
 
 use book::{Book, Place, Totals};
-use refusals::{Refusal, Verdict, refuse};
-use sums::wide;
+use refusals::{Refusal, Verdict, refuse_unless};
 
 // Where the totals stand, and how many cells there are.
 const TOTALS: usize = 120;
@@ -33,7 +32,7 @@ const DAY_MONEY: u64 = 96000000000000000;
 fn cell(cells: &[u64], k: usize) -> u64
     ensures { result ≡ at cells.now k }
 {
-    if k < cells.len() { cells[k] } else { 0 }
+    cells.get(k).copied().unwrap_or(0)
 }
 
 // The first cell of an hour's place.
@@ -75,6 +74,7 @@ fn day_good(cells: &[u64], demand: u64, losses: u64, bought: u64, money: u64) ->
 }
 
 // What one place and the totals show: calls from an empty book can have left these cells.
+#[tactic(auto, using(crate::proofs::Looked::limits), unfolding(crate::specs::Cells::looked_good))]
 fn looked_good(cells: &[u64], hour: u32) -> bool
     ensures { result ≡ looked_good cells.now hour }
 {
@@ -96,31 +96,23 @@ fn looked_good(cells: &[u64], hour: u32) -> bool
 fn room_verdict(cells: &[u64]) -> Verdict
     ensures { result ≡ room_for cells.now }
 {
-    if cells.len() < ALL {
-        refuse(Refusal::ROOM, 0)
-    } else {
-        Verdict::Fine
-    }
+    refuse_unless(ALL <= cells.len(), Refusal::ROOM, 0)
 }
 
 fn looked_verdict(cells: &[u64], hour: u32) -> Verdict
     ensures { result ≡ looked_verdict cells.now hour }
 {
-    if looked_good(cells, hour) {
-        Verdict::Fine
-    } else {
-        refuse(Refusal::ROOM, 0)
-    }
+    refuse_unless(looked_good(cells, hour), Refusal::ROOM, 0)
 }
 
 // Too few cells, then what the book itself says of the call, then cells that are no book's.
+#[tactic(auto, unfolding(crate::specs::Cells::cells_verdict))]
 fn cells_verdict(cells: &[u64], hour: u32, own: Verdict) -> Verdict
     ensures { result ≡ cells_verdict cells.now hour own }
 {
-    let room = room_verdict(cells);
-    let looked = looked_verdict(cells, hour);
-    let rest = book::first(own, looked);
-    book::first(room, rest)
+    room_verdict(cells)?;
+    own?;
+    looked_verdict(cells, hour)
 }
 
 // Puts numbers into the cells, from a place on.
@@ -128,17 +120,7 @@ fn put_at(cells: &mut [u64], start: usize, numbers: &[u64])
     requires { start + length numbers.now ≤ length cells.old }
     ensures { cells.new ≡ put cells.old start numbers.now }
 {
-    let mut i = 0;
-    while i < numbers.len() {
-        cells[start + i] = numbers[i];
-        i += 1;
-    }
-}
-
-fn flag(held: bool) -> u64
-    ensures { result ≡ flag_of held }
-{
-    if held { 1 } else { 0 }
+    cells[start..start + numbers.len()].copy_from_slice(numbers);
 }
 
 // A total with one part taken back and another added.
@@ -155,14 +137,19 @@ fn new_totals(cells: &[u64], hour: u32, new: Place) -> Totals
     ensures { result ≡ moved (totals_in cells.now) (place_in cells.now hour) new }
 {
     let start = start_of(hour);
-    let bought = wide(new.bought);
+    let bought = u64::from(new.bought);
     let old_bought = cell(cells, start + 3);
     let old_money = old_bought * cell(cells, start + 4);
     Totals {
-        demand: new_total(cells, TOTALS, cell(cells, start + 1), wide(new.demand)),
-        losses: new_total(cells, TOTALS + 1, cell(cells, start + 2), wide(new.losses)),
+        demand: new_total(cells, TOTALS, cell(cells, start + 1), u64::from(new.demand)),
+        losses: new_total(
+            cells,
+            TOTALS + 1,
+            cell(cells, start + 2),
+            u64::from(new.losses),
+        ),
         bought: new_total(cells, TOTALS + 2, old_bought, bought),
-        money: new_total(cells, TOTALS + 3, old_money, bought * wide(new.price)),
+        money: new_total(cells, TOTALS + 3, old_money, bought * u64::from(new.price)),
     }
 }
 
@@ -173,11 +160,11 @@ fn turn(cells: &mut [u64], hour: u32, new: Place)
 {
     let t = new_totals(cells, hour, new);
     let place = [
-        flag(new.held),
-        wide(new.demand),
-        wide(new.losses),
-        wide(new.bought),
-        wide(new.price),
+        u64::from(new.held),
+        u64::from(new.demand),
+        u64::from(new.losses),
+        u64::from(new.bought),
+        u64::from(new.price),
     ];
     let totals = [t.demand, t.losses, t.bought, t.money];
     put_at(cells, start_of(hour), &place);
@@ -190,29 +177,18 @@ fn turn_unless_refused(cells: &mut [u64], hour: u32, own: Verdict, new: Place) -
     ensures { CellsDo (cells_verdict cells.old hour own) (with_place_cells cells.old hour new)
         cells.old result cells.new }
 {
-    let verdict = cells_verdict(cells, hour, own);
-    match verdict {
-        Verdict::Fine => {
-            turn(cells, hour, new);
-            Verdict::Fine
-        }
-        Verdict::Refused(why) => Verdict::Refused(why),
-    }
+    cells_verdict(cells, hour, own)?;
+    turn(cells, hour, new);
+    Ok(())
 }
 
 // An empty book: zeros.
 pub fn empty(cells: &mut [u64]) -> Verdict
     ensures { Emptied cells.old result cells.new }
 {
-    if cells.len() < ALL {
-        return refuse(Refusal::ROOM, 0);
-    }
-    let mut i = 0;
-    while i < ALL {
-        cells[i] = 0;
-        i += 1;
-    }
-    Verdict::Fine
+    room_verdict(cells)?;
+    cells[..ALL].fill(0);
+    Ok(())
 }
 
 // Enters an hour, replacing one held.

@@ -7,7 +7,7 @@
 ghost use Rattle.book.specs.Book.{Kept};
 
 use book::{Book, Outcome, Totals};
-use input::cases::{Case, Next};
+use input::cases::Broken;
 use refusals::Verdict;
 use std::io;
 use std::io::Read;
@@ -20,25 +20,27 @@ fn called(call: &[u32; 6], held: Book) -> Outcome
     requires { Kept held }
     ensures { Kept result.book }
 {
-    if call[0] == 2 {
-        return book::without_hour(held, call[1]);
+    let [what, hour, demand, losses, bought, price] = *call;
+    if what == 2 {
+        return book::without_hour(held, hour);
     }
-    book::with_hour(held, call[1], call[2], call[3], call[4], call[5])
+    book::with_hour(held, hour, demand, losses, bought, price)
 }
 
 // The same call, on cells.
 fn cells_called(call: &[u32; 6], cells: &mut [u64; 126]) -> u32 {
-    if call[0] == 2 {
-        return capi::day_book::naomhral_book_remove(cells, call[1]);
+    let [what, hour, demand, losses, bought, price] = *call;
+    if what == 2 {
+        return capi::day_book::naomhral_book_remove(cells, hour);
     }
-    capi::day_book::naomhral_book_enter(cells, call[1], call[2], call[3], call[4], call[5])
+    capi::day_book::naomhral_book_enter(cells, hour, demand, losses, bought, price)
 }
 
 // The number that an answer is told by.
 fn number_told(v: Verdict) -> u32 {
     match v {
-        Verdict::Fine => 0,
-        Verdict::Refused(r) => r.number,
+        Ok(()) => 0,
+        Err(r) => r.number,
     }
 }
 
@@ -55,8 +57,8 @@ fn cells_agree(cells: &[u64; 126], t: Totals) -> bool {
 // The answer's number and place, 0 and 0 where all is fine.
 fn print_answer<P: Print>(rt: &P, v: Verdict) -> io::Result<()> {
     match v {
-        Verdict::Fine => rt.print("0 0"),
-        Verdict::Refused(r) => print!(rt; "{} {}", r.number, r.place),
+        Ok(()) => rt.print("0 0"),
+        Err(r) => print!(rt; "{} {}", r.number, r.place),
     }
 }
 
@@ -98,13 +100,12 @@ fn run_calls<P: Print, R: Read>(rt: &P, from: &mut R, n: u32) -> io::Result<bool
 
 // The next book, and whether to go on.
 fn run_book<P: Print + Eprint, R: Read>(rt: &P, from: &mut R, case: u64) -> io::Result<bool> {
-    let head = input::cases::next_number(from);
-    let Next::Number(n) = head else {
+    let Ok(Some(n)) = input::cases::next_number(from) else {
         return Ok(false);
     };
     print!(rt; "book {case}\n")?;
     if !run_calls(rt, from, n)? {
-        input::cases::complain(rt, Case::Cut);
+        input::cases::complain(rt, Err(Broken::Cut));
         return Ok(false);
     }
     Ok(true)

@@ -18,26 +18,25 @@ fn cells(fill: u32) -> [u64; CELLS] {
 fn lent(n: u32) -> usize
     ensures { result ≤ 130 }
 {
-    if n < 130 { n as usize } else { 130 }
+    n.min(130) as usize
 }
 
 // The numbers are hour, demand, losses, bought and price; without them the book is emptied.
 fn call(enters: bool, book: &mut [u64], n: &[u32]) -> u32 {
-    if n.len() < 5 {
-        return capi::day_book::naomhral_book_empty(book);
-    }
-    if enters {
-        capi::day_book::naomhral_book_enter(book, n[0], n[1], n[2], n[3], n[4])
-    } else {
-        capi::day_book::naomhral_book_remove(book, n[0])
+    match *n {
+        [hour, demand, losses, bought, price, ..] if enters => capi::day_book::naomhral_book_enter(
+            book, hour, demand, losses, bought, price,
+        ),
+        [hour, _, _, _, _, ..] => capi::day_book::naomhral_book_remove(book, hour),
+        _ => capi::day_book::naomhral_book_empty(book),
     }
 }
 
 fn show<P: Print>(rt: &P, returned: u32, book: [u64; CELLS]) -> io::Result<()> {
     printer::returned(rt, returned)?;
     printer::word(rt, " cells")?;
-    printer::wide_numbers(rt, &book[0..5])?;
-    printer::wide_numbers(rt, &book[120..124])
+    printer::numbers(rt, &book[0..5])?;
+    printer::numbers(rt, &book[120..124])
 }
 
 pub(crate) fn run<P: Print>(

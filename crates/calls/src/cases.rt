@@ -213,7 +213,7 @@ fn print_lent<P: Print>(
     printer::word(rt, "\namounts")?;
     printer::numbers(rt, amounts)?;
     printer::word(rt, "\ntext")?;
-    printer::bytes(rt, text)?;
+    printer::numbers(rt, text)?;
     printer::word(rt, "\nanswer")?;
     printer::numbers(rt, answer)?;
     printer::word(rt, "\n")

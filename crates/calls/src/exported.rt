@@ -56,11 +56,8 @@ pub(crate) fn page<P: Print>(
 
 // Puts a list at the front of another that has room for it.
 fn put(list: &[u32], out: &mut [u32]) {
-    if out.len() < list.len() {
-        return;
-    }
-    for i in 0..list.len() {
-        out[i] = list[i];
+    if list.len() <= out.len() {
+        out[..list.len()].copy_from_slice(list);
     }
 }
 

@@ -1,10 +1,9 @@
 // The library's own functions, each called as any crate calls it; the line says what it answers.
 use crate::printer;
 use hour::Summary;
-use printing::Printed;
-use sheet::{Counts, Fields, Reading};
+use refusals::Refusal;
+use sheet::{Counts, Fields};
 use std::io;
-use writing::Writing;
 
 fn counts<P: Print>(rt: &P, c: Counts) -> io::Result<()> {
     printer::word(rt, "accepted")?;
@@ -16,8 +15,8 @@ fn counts<P: Print>(rt: &P, c: Counts) -> io::Result<()> {
 
 pub(crate) fn read<P: Print>(rt: &P, bytes: &[u8]) -> io::Result<()> {
     match sheet::read(bytes) {
-        Reading::Accepted(c) => counts(rt, c),
-        Reading::Refused(why) => printer::refused(rt, why),
+        Ok(c) => counts(rt, c),
+        Err(why) => printer::refused(rt, why),
     }
 }
 
@@ -35,7 +34,7 @@ pub(crate) fn ask_row<P: Print>(rt: &P, bytes: &[u8], section: u32, row: u32) ->
 pub(crate) fn ask_section<P: Print>(rt: &P, bytes: &[u8], section: u32) -> io::Result<()> {
     printer::verdict(rt, sheet::asking::ask_section(bytes, section))?;
     printer::word(rt, " section")?;
-    printer::bytes(rt, sheet::asking::section(bytes, section))
+    printer::numbers(rt, sheet::asking::section(bytes, section))
 }
 
 fn done<P: Print>(rt: &P, n: usize) -> io::Result<()> {
@@ -52,8 +51,8 @@ pub(crate) fn write<P: Print>(
     out: &mut [u8],
 ) -> io::Result<()> {
     match writing::write(agents, boundaries, plants, contracts, out) {
-        Writing::Done(n) => done(rt, n),
-        Writing::Refused(why) => printer::refused(rt, why),
+        Ok(n) => done(rt, n),
+        Err(why) => printer::refused(rt, why),
     }
 }
 
@@ -83,7 +82,7 @@ pub(crate) fn price<P: Print>(
     scheduled: &[u32],
 ) -> io::Result<()> {
     printer::word(rt, "price")?;
-    printer::number(rt, dispatch::price(offers, flags, scheduled) as u64)
+    printer::number(rt, u64::from(dispatch::price(offers, flags, scheduled)))
 }
 
 pub(crate) fn assign<P: Print>(
@@ -108,10 +107,10 @@ pub(crate) fn settle<P: Print>(
     printer::numbers(rt, &[s.number, s.place, s.price, s.demand, s.losses])
 }
 
-fn printed<P: Print>(rt: &P, p: Printed) -> io::Result<()> {
+fn printed<P: Print>(rt: &P, p: Result<usize, Refusal>) -> io::Result<()> {
     match p {
-        Printed::Done(n) => done(rt, n),
-        Printed::Refused(why) => printer::refused(rt, why),
+        Ok(n) => done(rt, n),
+        Err(why) => printer::refused(rt, why),
     }
 }
 

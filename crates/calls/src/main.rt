@@ -5,7 +5,6 @@
 // lists, the rooms of six lent lists, the case's rows, and 0. Then come the bytes and the lists of 32-bit numbers, each from a new row on.
 #![tactic(auto)]
 
-use input::Input;
 use std::io;
 
 mod books;
@@ -21,6 +20,7 @@ fn run_all<P: Print>(rt: &P, s: &[u8]) -> io::Result<()> {
     }
     let mut at = 0;
     let mut case: u64 = 0;
+    // A case has as many rows as it says, so the loop counts rows and not turns.
     while at < rows {
         printer::heading(rt, case)?;
         at += cases::run(rt, s, at)?;
@@ -32,14 +32,9 @@ fn run_all<P: Print>(rt: &P, s: &[u8]) -> io::Result<()> {
 fn main(rt: HostRuntime) -> io::Result<()> {
     let mut buf = [0u8; 131072];
     let mut from = rt.reader();
-    let got = input::read_all(&mut from, &mut buf);
-    match got {
-        Input::Failed(_) => rt.eprint("calls: the input cannot be read\n"),
-        Input::Bytes(n) => {
-            if n == buf.len() {
-                return rt.eprint("calls: the input is too long\n");
-            }
-            run_all(&rt, &buf[..n])
-        }
+    match input::read_all(&mut from, &mut buf) {
+        Err(_) => rt.eprint("calls: the input cannot be read\n"),
+        Ok(n) if n == buf.len() => rt.eprint("calls: the input is too long\n"),
+        Ok(n) => run_all(&rt, &buf[..n]),
     }
 }

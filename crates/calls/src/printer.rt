@@ -1,5 +1,6 @@
 // What the program prints: words and numbers, a line for each answer and for each lent list.
 use refusals::{Refusal, Verdict};
+use std::fmt::Display;
 use std::io;
 
 pub(crate) fn word<P: Print>(rt: &P, w: &str) -> io::Result<()> {
@@ -20,8 +21,8 @@ pub(crate) fn refused<P: Print>(rt: &P, why: Refusal) -> io::Result<()> {
 
 pub(crate) fn verdict<P: Print>(rt: &P, v: Verdict) -> io::Result<()> {
     match v {
-        Verdict::Fine => word(rt, "fine"),
-        Verdict::Refused(why) => refused(rt, why),
+        Ok(()) => word(rt, "fine"),
+        Err(why) => refused(rt, why),
     }
 }
 
@@ -30,21 +31,7 @@ pub(crate) fn returned<P: Print>(rt: &P, n: u32) -> io::Result<()> {
     print!(rt; "returns {n}")
 }
 
-pub(crate) fn numbers<P: Print>(rt: &P, list: &[u32]) -> io::Result<()> {
-    for n in list {
-        print!(rt; " {n}")?;
-    }
-    Ok(())
-}
-
-pub(crate) fn wide_numbers<P: Print>(rt: &P, list: &[u64]) -> io::Result<()> {
-    for n in list {
-        print!(rt; " {n}")?;
-    }
-    Ok(())
-}
-
-pub(crate) fn bytes<P: Print>(rt: &P, list: &[u8]) -> io::Result<()> {
+pub(crate) fn numbers<P: Print, N: Display>(rt: &P, list: &[N]) -> io::Result<()> {
     for n in list {
         print!(rt; " {n}")?;
     }

@@ -1,7 +1,7 @@
 pub mod Told
-pub mod Because
 pub mod ToldMend
 pub mod ToldBook
 pub mod ToldText
 pub mod Outcomes
 pub mod WholeDay
+pub mod Copied

@@ -3,7 +3,7 @@ use Prim.Native.Nat.{ℕ}
 use mathlib.Core.Path.{◌≡◌, sym, ◌∙◌}
 use mathlib.Core.List.{List}
 use Rattle.sums.proofs.Fill.{filled_unique}
-use Rattle.refusals.specs.declared.Verdict.{Verdict}
+use Rattle.refusals.specs.Refusals.{Verdict}
 use Rattle.hour.specs.Answer.{Lent}
 use Rattle.writing.specs.Numbers.{Numbers}
 use Rattle.settle.proofs.Judged.{outcome_unique}

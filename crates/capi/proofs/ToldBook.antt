@@ -1,38 +1,27 @@
 -- What the book in cells and the entry of an hour answer, as numbers. Assumes nothing.
+use Rattle.std.specs.Prelude.{Result}
+use Rattle.refusals.specs.declared.Refusal.{Refusal}
+use Rattle.book.specs.declared.Place.{Place}
 use Prim.Native.Nat.{ℕ, ◌≤◌, ◌<◌}
 use mathlib.Core.Path.{◌≡◌, sym, ap, ◌∙◌}
 use mathlib.Core.List.{List, [], ◌∷◌}
 use lib.ListN.{length}
 use borrow.Author.Tests.{le-leb, lt-leb}
 use Rattle.sums.proofs.Fill.{filled_unique}
-use Rattle.refusals.specs.Refusals.{no_room, number_of}
-use Rattle.refusals.specs.declared.Verdict.{Verdict}
+use Rattle.refusals.specs.Refusals.{no_room}
+use Rattle.refusals.specs.Refusals.{Verdict}
 use Rattle.entry.specs.Entry.{entry_of}
-use Rattle.entry.specs.declared.Entry.{Entry}
-use Rattle.book_cells.specs.Cells.{Emptied, CellsDo}
 use Rattle.capi.specs.BookTold.{EmptiedTold, CellsTold, summary_in, entry_answer, entry_told, EntryTold}
 use Rattle.capi.proofs.Outcomes.{told_unique}
 
 -- ---- the book: the number of what the call answered
-pub emptied_told : (before after : List ℕ) (v : Verdict) (n : ℕ)
-    → Emptied before v after
-    → n ≡ number_of v
-    → EmptiedTold before n after
-emptied_told before after v n e m = record { number = m ∙ ap number_of e.answer; zeros = e.zeros }
-
-pub cells_told : (w v : Verdict) (new before after : List ℕ) (n : ℕ)
-    → CellsDo w new before v after
-    → n ≡ number_of v
-    → CellsTold w new before n after
-cells_told w v new before after n d m = record { number = m ∙ ap number_of d.answer; left = d.left }
-
 -- ---- the entry
 module _ (sheet summary figures : List ℕ) where
   pub entry_short : length summary < 5 → entry_told sheet summary figures ≡ no_room ∷ 0 ∷ 0 ∷ 0 ∷ 0 ∷ 0 ∷ []
   unfolding entry_told
   entry_short l = rw (lt-leb 5 (length summary) l)
 
-  pub entry_known : (e : Entry) → 5 ≤ length summary → entry_of sheet (summary_in summary) figures ≡ e
+  pub entry_known : (e : Result Place Refusal) → 5 ≤ length summary → entry_of sheet (summary_in summary) figures ≡ e
       → entry_told sheet summary figures ≡ entry_answer e
   unfolding entry_told
   entry_known e l q = rw (le-leb 5 (length summary) l) (ap entry_answer q)

@@ -1,4 +1,5 @@
 -- The summaries of a day are those that its promise tells, and a list that is too short changes nothing. Assumes nothing.
+use Rattle.std.specs.Prelude.{Ok, Err}
 use Prim.Native.Nat.{ℕ, ◌≤◌, ◌<◌}
 use native.Mathlib.Omega.{arith}
 use mathlib.Core.List.{List}
@@ -12,7 +13,7 @@ use Rattle.sums.proofs.Fill.{filled_none, filled_unique}
 use Rattle.sums.proofs.Lists.{length_list_to, get_d_list_to}
 use Rattle.refusals.specs.Refusals.{no_room, number_of}
 use Rattle.refusals.specs.declared.Refusal.{Refusal}
-use Rattle.refusals.specs.declared.Verdict.{Verdict}
+use Rattle.refusals.specs.Refusals.{Verdict}
 use Rattle.hour.specs.Answer.{Lent}
 use Rattle.hour.specs.declared.Summary.{Summary}
 use Rattle.day.specs.Day.{hours, hour_sheet, part_of, day_verdict, HourIs, no_summary, DayOutcome, DaySettled}
@@ -24,8 +25,8 @@ module _ (bytes lengths : List ℕ) (before : Lent) where
   summary_at_lem : (v : Verdict) (h : ℕ) (after : Lent) (s : Summary)
       → HourIs v (hour_sheet bytes lengths h) (part_of before h) after s
       → s ≡ summary_at v bytes lengths before h
-  summary_at_lem Verdict.Fine h after s d = d.answered
-  summary_at_lem (Verdict.Refused q) h after s d = d
+  summary_at_lem (Ok tt) h after s d = d.answered
+  summary_at_lem (Err q) h after s d = d
 
   pub summaries_are : (v : Verdict) (after : Lent) (r : List Summary)
       → DayOutcome v bytes lengths before after r
@@ -39,12 +40,12 @@ module _ (bytes lengths : List ℕ) (before : Lent) where
 
   -- a refusal of the whole call changes nothing
   pub nothing_done : (q : Refusal)
-      → DayOutcome (Verdict.Refused q) bytes lengths before before (summaries_of (Verdict.Refused q) bytes lengths before)
+      → DayOutcome (Err q) bytes lengths before before (summaries_of (Err q) bytes lengths before)
   unfolding summaries_of
   nothing_done q =
       record {
         count = length_list_to _ hours;
-        hour = λ h l. get_d_list_to no_summary (summary_at (Verdict.Refused q) bytes lengths before) hours h l;
+        hour = λ h l. get_d_list_to no_summary (summary_at (Err q) bytes lengths before) hours h l;
         figures = kept_none 0 _ _;
         money = kept_none (pos 0) _ _;
         schedule = kept_none 0 _ _;

@@ -1,12 +1,14 @@
 -- What a C caller is told of a day's book in cells, and of the entry of an hour. Assumes nothing.
+use Rattle.std.specs.Prelude.{Result, Ok, Err}
+use Rattle.refusals.specs.declared.Refusal.{Refusal}
+use Rattle.book.specs.declared.Place.{Place}
 use Rattle.std.specs.Prelude.{ℕ, cond, List, [], ◌∷◌, ◌≡◌, length, leb}
 use Rattle.sums.specs.Lists.{at, Filled}
 use Rattle.refusals.specs.Refusals.{no_room, number_of, cells}
-use Rattle.refusals.specs.declared.Verdict.{Verdict}
+use Rattle.refusals.specs.Refusals.{Verdict}
 use Rattle.hour.specs.declared.Summary.{Summary}
 use Rattle.book_cells.specs.Cells.{all_cells, room_for, unless_refused_cells}
 use Rattle.entry.specs.Entry.{entry_of}
-use Rattle.entry.specs.declared.Entry.{Entry}
 use Rattle.capi.specs.Told.{Told}
 
 -- emptying: the refusal's number, 0 where all is fine, and zeros
@@ -24,9 +26,9 @@ abbrev pub summary_in : List ℕ → Summary
 summary_in l = record { number = at l 0; place = at l 1; price = at l 2; demand = at l 3; losses = at l 4 }
 
 -- its entry: number, place, demand, losses, bought kWh and price, 0 where refused
-abbrev pub entry_answer : Entry → List ℕ
-entry_answer (Entry.Hour p) = 0 ∷ 0 ∷ p.demand ∷ p.losses ∷ p.bought ∷ p.price ∷ []
-entry_answer (Entry.Refused r) = r.number ∷ r.place ∷ 0 ∷ 0 ∷ 0 ∷ 0 ∷ []
+abbrev pub entry_answer : Result Place Refusal → List ℕ
+entry_answer (Ok p) = 0 ∷ 0 ∷ p.demand ∷ p.losses ∷ p.bought ∷ p.price ∷ []
+entry_answer (Err r) = r.number ∷ r.place ∷ 0 ∷ 0 ∷ 0 ∷ 0 ∷ []
 
 -- 11 where the summary has too few cells
 unfoldable pub entry_told : (sheet summary figures : List ℕ) → List ℕ

@@ -1,14 +1,16 @@
 -- What a C caller is told of sheets and statements as text. Assumes nothing.
+use Rattle.std.specs.Prelude.{Some}
+use Rattle.std.specs.Prelude.{Result, Ok, Err}
+use Rattle.refusals.specs.declared.Refusal.{Refusal}
 use Rattle.std.specs.Prelude.{ℕ, ◌+◌, min, cond, List, [], ◌∷◌, ◌≡◌, length, leb}
 use Rattle.sums.specs.Lists.{at, Filled}
 use Rattle.refusals.specs.Refusals.{cells}
-use Rattle.refusals.specs.declared.Verdict.{Verdict}
+use Rattle.refusals.specs.Refusals.{Verdict}
 use Rattle.octets.specs.Bytes.{byte_of}
 use Rattle.sheet.specs.Reading.{read_of}
 use Rattle.sheet.specs.declared.Counts.{Counts}
 use Rattle.hour.specs.Answer.{Lent}
 use Rattle.printing.specs.Page.{printed}
-use Rattle.printing.specs.declared.Printed.{Printed}
 use Rattle.writing.specs.Words.{sheet_row}
 use Rattle.entry.specs.Entry.{most_word}
 use Rattle.text.specs.Faults.{fault_number}
@@ -16,10 +18,10 @@ use Rattle.text.specs.declared.Fault.{Fault}
 use Rattle.typing.specs.Rows.{numbers_in}
 use Rattle.typing.specs.Text.{text_of, text_verdict}
 use Rattle.typing.specs.Made.{made, made_cells}
-use Rattle.typing.specs.declared.Made.{Made}
+use Rattle.typing.specs.declared.Unmade.{Unmade}
 use Rattle.telling.specs.Tell.{own_statement, tell_verdict}
 use Rattle.stating.specs.Read.{statement_of, lists_after}
-use Rattle.stating.specs.declared.Statement.{Statement}
+use Rattle.text.specs.declared.WrongLine.{WrongLine}
 use Rattle.capi.specs.Told.{Told}
 
 -- a length or a line in 32 bits; what has more is told as the greatest number that has no more
@@ -28,12 +30,12 @@ narrowed n = min n most_word
 
 -- a fault is told behind the refusals: 30 and its number
 abbrev pub fault_told : Fault → ℕ
-fault_told f = 30 + fault_number f
+fault_told f = 30 + fault_number (Some f)
 
 -- ---- a text put into a lent buffer: number, place, and the length written, 0 where refused; and the bytes
-abbrev pub printed_answer : Printed → List ℕ
-printed_answer (Printed.Done n) = 0 ∷ 0 ∷ narrowed n ∷ []
-printed_answer (Printed.Refused r) = r.number ∷ r.place ∷ 0 ∷ []
+abbrev pub printed_answer : Result ℕ Refusal → List ℕ
+printed_answer (Ok n) = 0 ∷ 0 ∷ narrowed n ∷ []
+printed_answer (Err r) = r.number ∷ r.place ∷ 0 ∷ []
 
 pub record TextTold (v : Verdict) (text before list : List ℕ) (r : ℕ) (after list' : List ℕ) : Type 0 where
   pub told : Told 3 (printed_answer (printed v (length text))) list r list'
@@ -47,10 +49,10 @@ abbrev pub StatementTextTold : (sheet before list : List ℕ) → ℕ → (after
 StatementTextTold sheet before = TextTold (tell_verdict sheet (length before)) (own_statement sheet) before
 
 -- ---- making a sheet from its text: number, place, the length written, and the line of what is wrong or refused; 0 where there is none
-abbrev pub made_answer : Made → List ℕ
-made_answer (Made.Done n) = 0 ∷ 0 ∷ narrowed n ∷ 0 ∷ []
-made_answer (Made.Wrong line f) = fault_told f ∷ 0 ∷ 0 ∷ narrowed line ∷ []
-made_answer (Made.Refused line r) = r.number ∷ r.place ∷ 0 ∷ narrowed line ∷ []
+abbrev pub made_answer : Result ℕ Unmade → List ℕ
+made_answer (Ok n) = 0 ∷ 0 ∷ narrowed n ∷ 0 ∷ []
+made_answer (Err (Unmade.Wrong w)) = fault_told w.fault ∷ 0 ∷ 0 ∷ narrowed w.line ∷ []
+made_answer (Err (Unmade.Refused line r)) = r.number ∷ r.place ∷ 0 ∷ narrowed line ∷ []
 
 pub record MadeTold (text before list : List ℕ) (r : ℕ) (after list' : List ℕ) : Type 0 where
   pub told : Told 4 (made_answer (made text (length before))) list r list'
@@ -58,9 +60,9 @@ pub record MadeTold (text before list : List ℕ) (r : ℕ) (after list' : List 
       (byte_of (sheet_row (numbers_in text)))
 
 -- ---- reading a statement: number, line and price; and the four lists
-abbrev pub statement_answer : Statement → List ℕ
-statement_answer (Statement.Price p) = 0 ∷ 0 ∷ p ∷ []
-statement_answer (Statement.Wrong line f) = fault_told f ∷ narrowed line ∷ 0 ∷ []
+abbrev pub statement_answer : Result ℕ WrongLine → List ℕ
+statement_answer (Ok p) = 0 ∷ 0 ∷ p ∷ []
+statement_answer (Err w) = fault_told w.fault ∷ narrowed w.line ∷ 0 ∷ []
 
 -- the counts of a sheet that a statement has rows of
 abbrev pub stated_counts : (agents plants contracts : ℕ) → Counts

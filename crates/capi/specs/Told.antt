@@ -1,12 +1,14 @@
 -- What a C caller is told: every answer is a number returned and numbers in a lent answer list. Where that list is too short for
 -- them the function answers 11 and changes nothing at all. Assumes nothing.
+use Rattle.std.specs.Prelude.{Result, Ok, Err}
+use Rattle.sheet.specs.declared.Counts.{Counts}
+use Rattle.refusals.specs.declared.Refusal.{Refusal}
 use Rattle.std.specs.Prelude.{ℕ, ◌≡◌, cond, List, [], ◌∷◌, length, leb}
 use Rattle.sums.specs.Lists.{at, Filled}
 use Rattle.refusals.specs.Refusals.{no_room, number_of, refused, refused_unless, cells}
-use Rattle.refusals.specs.declared.Verdict.{Verdict}
+use Rattle.refusals.specs.Refusals.{Verdict}
 use Rattle.share.specs.Share.{share_verdict, share_of}
 use Rattle.sheet.specs.Reading.{read_of, sheet_length}
-use Rattle.sheet.specs.declared.Reading.{Reading}
 use Rattle.octets.specs.Bytes.{byte_of}
 use Rattle.columns.specs.Columns.{hour_of}
 use Rattle.hour.specs.Answer.{Lent, summary_of}
@@ -29,25 +31,25 @@ pub record Told (k : ℕ) (answer before : List ℕ) (r : ℕ) (after : List ℕ
   pub listed : Filled 0 before after (cond (leb k (length before)) k 0) (at answer)
 
 -- reading: number, place, and the four counts, 0 where refused
-abbrev pub read_answer : Reading → List ℕ
-read_answer (Reading.Accepted c) = 0 ∷ 0 ∷ c.agents ∷ c.boundaries ∷ c.plants ∷ c.contracts ∷ []
-read_answer (Reading.Refused r) = r.number ∷ r.place ∷ 0 ∷ 0 ∷ 0 ∷ 0 ∷ []
+abbrev pub read_answer : Result Counts Refusal → List ℕ
+read_answer (Ok c) = 0 ∷ 0 ∷ c.agents ∷ c.boundaries ∷ c.plants ∷ c.contracts ∷ []
+read_answer (Err r) = r.number ∷ r.place ∷ 0 ∷ 0 ∷ 0 ∷ 0 ∷ []
 
 abbrev pub ReadTold : (sheet before : List ℕ) → ℕ → (after : List ℕ) → Type 0
 ReadTold sheet = Told 6 (read_answer (read_of sheet))
 
 -- checking a statement: number and place
 abbrev pub check_answer : Verdict → List ℕ
-check_answer Verdict.Fine = 0 ∷ 0 ∷ []
-check_answer (Verdict.Refused r) = r.number ∷ r.place ∷ []
+check_answer (Ok tt) = 0 ∷ 0 ∷ []
+check_answer (Err r) = r.number ∷ r.place ∷ []
 
 abbrev pub CheckTold : (sheet : List ℕ) (price : ℕ) (l : Lent) (before : List ℕ) → ℕ → (after : List ℕ) → Type 0
 CheckTold sheet price l = Told 2 (check_answer (check_verdict sheet price l))
 
 -- bytes put into a lent buffer: number, place, and the length written, 0 where refused; and the bytes
 abbrev pub length_answer : Verdict → (size : ℕ) → List ℕ
-length_answer Verdict.Fine size = 0 ∷ 0 ∷ size ∷ []
-length_answer (Verdict.Refused r) size = r.number ∷ r.place ∷ 0 ∷ []
+length_answer (Ok tt) size = 0 ∷ 0 ∷ size ∷ []
+length_answer (Err r) size = r.number ∷ r.place ∷ 0 ∷ []
 
 pub record BytesTold (v : Verdict) (size : ℕ) (byte : ℕ → ℕ) (before list : List ℕ) (r : ℕ)
     (after list' : List ℕ) : Type 0 where

@@ -3,7 +3,7 @@
 use Rattle.std.specs.Prelude.{ℕ, ◌*◌, ◌/◌, ◌%◌, Bool, cond, List, ◌≡◌, leb, length, get_or}
 use Rattle.sums.specs.Lists.{at, list_to, Filled}
 use Rattle.refusals.specs.Refusals.{no_room, number_of, refused, or_else}
-use Rattle.refusals.specs.declared.Verdict.{Verdict}
+use Rattle.refusals.specs.Refusals.{Verdict}
 use Rattle.columns.specs.Columns.{hour_of}
 use Rattle.hour.specs.Answer.{Lent, summary_of}
 use Rattle.hour.specs.declared.Summary.{Summary}

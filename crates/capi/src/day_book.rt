@@ -5,7 +5,6 @@ ghost use Rattle.book_cells.specs.Cells.{cells_verdict, with_place_cells};
 ghost use Rattle.capi.specs.BookTold.{EmptiedTold, CellsTold, EntryTold};
 
 use crate::{number_of, tell};
-use entry::Entry;
 use hour::Summary;
 use refusals::Refusal;
 
@@ -49,9 +48,7 @@ pub fn naomhral_entry(sheet: &[u8], summary: &[u32], figures: &[u32], answer: &m
         return Refusal::ROOM;
     }
     if summary.len() < 5 {
-        let numbers = [Refusal::ROOM, 0, 0, 0, 0, 0];
-        tell(&numbers, answer);
-        return Refusal::ROOM;
+        return tell(&[Refusal::ROOM, 0, 0, 0, 0, 0], answer);
     }
     let settled = Summary {
         number: summary[0],
@@ -61,15 +58,7 @@ pub fn naomhral_entry(sheet: &[u8], summary: &[u32], figures: &[u32], answer: &m
         losses: summary[4],
     };
     match entry::entry_of(sheet, settled, figures) {
-        Entry::Hour(h) => {
-            let numbers = [0, 0, h.demand, h.losses, h.bought, h.price];
-            tell(&numbers, answer);
-            0
-        }
-        Entry::Refused(why) => {
-            let numbers = [why.number, why.place, 0, 0, 0, 0];
-            tell(&numbers, answer);
-            why.number
-        }
+        Ok(h) => tell(&[0, 0, h.demand, h.losses, h.bought, h.price], answer),
+        Err(why) => tell(&[why.number, why.place, 0, 0, 0, 0], answer),
     }
 }

@@ -4,11 +4,11 @@
 pub mod day_book;
 pub mod mending;
 
-ghost use Rattle.std.specs.Prelude.{◌≡◌, ◌≤◌, length};
+ghost use Rattle.std.specs.Prelude.{◌≡◌, ◌≤◌, ◌<◌, length};
 ghost use Rattle.sums.specs.Lists.{at, Filled};
 ghost use Rattle.refusals.specs.Refusals.{number_of};
 ghost use Rattle.writing.specs.Numbers.{numbers};
-ghost use Rattle.capi.specs.Told.{ShareTold, ReadTold, WriteTold, SettleTold, CheckTold, PageTold};
+ghost use Rattle.capi.specs.Told.{ShareTold, ReadTold, WriteTold, SettleTold, CheckTold, PageTold, summary_answer};
 
 pub mod texts;
 pub mod whole_day;
@@ -16,29 +16,32 @@ pub mod why;
 
 ghost use Rattle.hour.specs.Answer.{lent};
 
-use printing::Printed;
+use hour::Summary;
 use refusals::{Refusal, Verdict};
-use sheet::Reading;
-use writing::Writing;
 
-// Copies the answer's numbers to the front of the caller's list.
-fn tell(numbers: &[u32], out: &mut [u32])
-    requires { length numbers.now ≤ length out.old }
-    ensures { Filled 0 out.old out.new (length numbers.now) (at numbers.now) }
+// Lists the answer's numbers at the front of the caller's list, and hands back the first.
+fn tell(numbers: &[u32], out: &mut [u32]) -> u32
+    requires { (0 < length numbers.now) × (length numbers.now ≤ length out.old) }
+    ensures { (result ≡ at numbers.now 0)
+        × Filled 0 out.old out.new (length numbers.now) (at numbers.now) }
 {
-    let mut i = 0;
-    while i < numbers.len() {
-        out[i] = numbers[i];
-        i += 1;
-    }
+    out[..numbers.len()].copy_from_slice(numbers);
+    numbers[0]
+}
+
+// An hour's summary as numbers.
+fn summary_numbers(s: Summary) -> [u32; 5]
+    ensures { result ≡ summary_answer s }
+{
+    [s.number, s.place, s.price, s.demand, s.losses]
 }
 
 fn number_of(v: Verdict) -> u32
     ensures { result ≡ number_of v }
 {
     match v {
-        Verdict::Fine => 0,
-        Verdict::Refused(why) => why.number,
+        Ok(()) => 0,
+        Err(why) => why.number,
     }
 }
 
@@ -50,6 +53,7 @@ pub fn naomhral_share(amount: u32, weights: &[u32], out: &mut [u32]) -> u32
 }
 
 // Reads a sheet: number, place and the four counts go to the answer list, and the number is returned.
+#[tactic(auto, using(sheet::proofs::Accepted::accepted_few))]
 pub fn naomhral_read(sheet: &[u8], answer: &mut [u32]) -> u32
     ensures { ReadTold sheet.now answer.old result answer.new }
 {
@@ -57,23 +61,18 @@ pub fn naomhral_read(sheet: &[u8], answer: &mut [u32]) -> u32
         return Refusal::ROOM;
     }
     match sheet::read(sheet) {
-        Reading::Accepted(c) => {
-            let numbers = [
+        Ok(c) => tell(
+            &[
                 0,
                 0,
                 c.agents as u32,
                 c.boundaries as u32,
                 c.plants as u32,
                 c.contracts as u32,
-            ];
-            tell(&numbers, answer);
-            0
-        }
-        Reading::Refused(why) => {
-            let numbers = [why.number, why.place, 0, 0, 0, 0];
-            tell(&numbers, answer);
-            why.number
-        }
+            ],
+            answer,
+        ),
+        Err(why) => tell(&[why.number, why.place, 0, 0, 0, 0], answer),
     }
 }
 
@@ -93,16 +92,8 @@ pub fn naomhral_write(
         return Refusal::ROOM;
     }
     match writing::write(agents, boundaries, plants, contracts, out) {
-        Writing::Done(n) => {
-            let numbers = [0, 0, n as u32];
-            tell(&numbers, answer);
-            0
-        }
-        Writing::Refused(why) => {
-            let numbers = [why.number, why.place, 0];
-            tell(&numbers, answer);
-            why.number
-        }
+        Ok(n) => tell(&[0, 0, n as u32], answer),
+        Err(why) => tell(&[why.number, why.place, 0], answer),
     }
 }
 
@@ -125,9 +116,7 @@ pub fn naomhral_settle(
         return Refusal::ROOM;
     }
     let s = settle::settle(sheet, figures, money, schedule, amounts);
-    let numbers = [s.number, s.place, s.price, s.demand, s.losses];
-    tell(&numbers, summary);
-    s.number
+    tell(&summary_numbers(s), summary)
 }
 
 // Checks an administrator's statement of a sheet's hour: number and place go to the answer list, and the number is returned.
@@ -148,16 +137,8 @@ pub fn naomhral_check(
         return Refusal::ROOM;
     }
     match checking::check(sheet, price, figures, money, schedule, amounts) {
-        Verdict::Fine => {
-            let numbers = [0, 0];
-            tell(&numbers, answer);
-            0
-        }
-        Verdict::Refused(why) => {
-            let numbers = [why.number, why.place];
-            tell(&numbers, answer);
-            why.number
-        }
+        Ok(()) => tell(&[0, 0], answer),
+        Err(why) => tell(&[why.number, why.place], answer),
     }
 }
 
@@ -169,15 +150,7 @@ pub fn naomhral_page(sheet: &[u8], out: &mut [u8], answer: &mut [u32]) -> u32
         return Refusal::ROOM;
     }
     match page::page(sheet, out) {
-        Printed::Done(n) => {
-            let numbers = [0, 0, n as u32];
-            tell(&numbers, answer);
-            0
-        }
-        Printed::Refused(why) => {
-            let numbers = [why.number, why.place, 0];
-            tell(&numbers, answer);
-            why.number
-        }
+        Ok(n) => tell(&[0, 0, n as u32], answer),
+        Err(why) => tell(&[why.number, why.place, 0], answer),
     }
 }

@@ -6,43 +6,34 @@ ghost use Rattle.capi.specs.TextTold.{narrowed, fault_told, printed_answer, Shee
 ghost use Rattle.capi.specs.TextTold.{MadeTold, statement_answer, stated_counts, StatementTold};
 
 use crate::tell;
-use printing::Printed;
 use refusals::Refusal;
 use sheet::Counts;
-use stating::Statement;
-use text::Fault;
-use typing::Made;
+use text::{Fault, WrongLine};
+use typing::Unmade;
 
 // A length or a line in 32 bits, and the greatest such number where it has more.
 fn narrow(n: usize) -> u32
     ensures { result ≡ narrowed n }
 {
-    if n < 4294967295 { n as u32 } else { 4294967295 }
+    n.min(u32::MAX as usize) as u32
 }
 
 // What is wrong with a line, as a number behind the refusals.
+#[tactic(auto, using(crate::proofs::ToldText::fault_few))]
 fn fault_told(f: Fault) -> u32
     ensures { result ≡ fault_told f }
 {
-    30 + text::number_of(f)
+    30 + text::number_of(Some(f))
 }
 
 // What was put into a buffer: the answer's numbers go to the front of the caller's list, and the first is returned.
-fn tell_printed(p: Printed, answer: &mut [u32]) -> u32
+fn tell_printed(p: Result<usize, Refusal>, answer: &mut [u32]) -> u32
     requires { 3 ≤ length answer.old }
     ensures { (result ≡ at (printed_answer p) 0) × Filled 0 answer.old answer.new 3 (at (printed_answer p)) }
 {
     match p {
-        Printed::Done(n) => {
-            let numbers = [0, 0, narrow(n)];
-            tell(&numbers, answer);
-            0
-        }
-        Printed::Refused(why) => {
-            let numbers = [why.number, why.place, 0];
-            tell(&numbers, answer);
-            why.number
-        }
+        Ok(n) => tell(&[0, 0, narrow(n)], answer),
+        Err(why) => tell(&[why.number, why.place, 0], answer),
     }
 }
 
@@ -54,8 +45,7 @@ pub fn naomhral_sheet_text(sheet: &[u8], out: &mut [u8], answer: &mut [u32]) -> 
     if answer.len() < 3 {
         return Refusal::ROOM;
     }
-    let p = typing::texts::write(sheet, out);
-    tell_printed(p, answer)
+    tell_printed(typing::texts::write(sheet, out), answer)
 }
 
 // Settles a sheet and puts the hour into a lent buffer as a statement's text: number, place and length go to the answer list, and the
@@ -67,31 +57,19 @@ pub fn naomhral_statement_text(sheet: &[u8], out: &mut [u8], answer: &mut [u32])
     if answer.len() < 3 {
         return Refusal::ROOM;
     }
-    let p = telling::tell(sheet, out);
-    tell_printed(p, answer)
+    tell_printed(telling::tell(sheet, out), answer)
 }
 
 // The same of making a sheet.
-fn tell_made(m: Made, answer: &mut [u32]) -> u32
+fn tell_made(m: Result<usize, Unmade>, answer: &mut [u32]) -> u32
     requires { 4 ≤ length answer.old }
     ensures { (result ≡ at (made_answer m) 0) × Filled 0 answer.old answer.new 4 (at (made_answer m)) }
 {
     match m {
-        Made::Done(n) => {
-            let numbers = [0, 0, narrow(n), 0];
-            tell(&numbers, answer);
-            0
-        }
-        Made::Wrong(line, fault) => {
-            let number = fault_told(fault);
-            let numbers = [number, 0, 0, narrow(line)];
-            tell(&numbers, answer);
-            number
-        }
-        Made::Refused(line, why) => {
-            let numbers = [why.number, why.place, 0, narrow(line)];
-            tell(&numbers, answer);
-            why.number
+        Ok(n) => tell(&[0, 0, narrow(n), 0], answer),
+        Err(Unmade::Wrong(w)) => tell(&[fault_told(w.fault), 0, 0, narrow(w.line)], answer),
+        Err(Unmade::Refused(line, why)) => {
+            tell(&[why.number, why.place, 0, narrow(line)], answer)
         }
     }
 }
@@ -104,27 +82,17 @@ pub fn naomhral_make_sheet(text: &[u8], out: &mut [u8], answer: &mut [u32]) -> u
     if answer.len() < 4 {
         return Refusal::ROOM;
     }
-    let m = typing::make(text, out);
-    tell_made(m, answer)
+    tell_made(typing::make(text, out), answer)
 }
 
 // The same of reading a statement.
-fn tell_statement(s: Statement, answer: &mut [u32]) -> u32
+fn tell_statement(s: Result<u32, WrongLine>, answer: &mut [u32]) -> u32
     requires { 3 ≤ length answer.old }
     ensures { (result ≡ at (statement_answer s) 0) × Filled 0 answer.old answer.new 3 (at (statement_answer s)) }
 {
     match s {
-        Statement::Price(price) => {
-            let numbers = [0, 0, price];
-            tell(&numbers, answer);
-            0
-        }
-        Statement::Wrong(line, fault) => {
-            let number = fault_told(fault);
-            let numbers = [number, narrow(line), 0];
-            tell(&numbers, answer);
-            number
-        }
+        Ok(price) => tell(&[0, 0, price], answer),
+        Err(w) => tell(&[fault_told(w.fault), narrow(w.line), 0], answer),
     }
 }
 
@@ -155,6 +123,6 @@ pub fn naomhral_read_statement(
         plants: plants as usize,
         contracts: contracts as usize,
     };
-    let s = stating::read(text, counts, figures, money, schedule, amounts);
-    tell_statement(s, answer)
+    let told = stating::read(text, counts, figures, money, schedule, amounts);
+    tell_statement(told, answer)
 }

@@ -2,10 +2,9 @@
 ghost use Rattle.std.specs.Prelude.{◌≡◌, ◌≤◌, ◌<◌, length};
 ghost use Rattle.sums.specs.Lists.{at, Filled};
 ghost use Rattle.hour.specs.Answer.{lent};
-ghost use Rattle.capi.specs.Told.{summary_answer};
-ghost use Rattle.capi.specs.WholeDay.{hour_numbers, day_numbers, day_cell, DayTold};
+ghost use Rattle.capi.specs.WholeDay.{day_numbers, day_cell, DayTold};
 
-use crate::number_of;
+use crate::{number_of, summary_numbers};
 use day::HOURS;
 use hour::Summary;
 use refusals::Refusal;
@@ -15,26 +14,14 @@ const NUMBERS: usize = 5;
 
 const ALL: usize = NUMBERS * HOURS;
 
-// Number, place, price, demand and losses, by their number.
-fn cell(s: Summary, c: usize) -> u32
-    requires { c < hour_numbers }
-    ensures { result ≡ at (summary_answer s) c }
-{
-    let numbers = [s.number, s.place, s.price, s.demand, s.losses];
-    numbers[c]
-}
-
 // Copies the summaries to the front of the caller's list, hour by hour.
 fn tell_hours(all: [Summary; HOURS], out: &mut [u32])
     requires { day_numbers ≤ length out.old }
     ensures { Filled 0 out.old out.new day_numbers (day_cell all) }
 {
-    let mut i = 0;
-    while i < ALL {
-        let h = i / NUMBERS;
-        let s = all[h];
-        out[i] = cell(s, i % NUMBERS);
-        i += 1;
+    for (h, &s) in all.iter().enumerate() {
+        let start = NUMBERS * h;
+        out[start..start + NUMBERS].copy_from_slice(&summary_numbers(s));
     }
 }
 

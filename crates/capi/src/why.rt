@@ -4,7 +4,7 @@ ghost use Rattle.std.specs.Prelude.{◌≡◌};
 ghost use Rattle.reasons.specs.Reasons.{first_value, second_value};
 
 use crate::tell;
-use reasons::{ContractReason, ContractWhy, PlantWhy};
+use reasons::ContractReason;
 use refusals::Refusal;
 
 // The two values of a reason: the quantities ahead and the buyer's demand, or what remains when the group is reached and what it asks.
@@ -42,9 +42,8 @@ pub fn naomhral_why_plant(sheet: &[u8], plant: u32, answer: &mut [u32]) -> u32
         return Refusal::ROOM;
     }
     match reasons::why_plant(sheet, plant) {
-        PlantWhy::Because(k) => {
-            let told = k.reason;
-            let reason = reasons::plant_number(told);
+        Ok(k) => {
+            let reason = reasons::plant_number(k.reason);
             let numbers = [
                 0,
                 0,
@@ -55,14 +54,9 @@ pub fn naomhral_why_plant(sheet: &[u8], plant: u32, answer: &mut [u32]) -> u32
                 k.offer,
                 k.price,
             ];
-            tell(&numbers, answer);
-            0
+            tell(&numbers, answer)
         }
-        PlantWhy::Refused(why) => {
-            let numbers = [why.number, why.place, 0, 0, 0, 0, 0, 0];
-            tell(&numbers, answer);
-            why.number
-        }
+        Err(why) => tell(&[why.number, why.place, 0, 0, 0, 0, 0, 0], answer),
     }
 }
 
@@ -75,19 +69,15 @@ pub fn naomhral_why_contract(sheet: &[u8], contract: u32, answer: &mut [u32]) ->
         return Refusal::ROOM;
     }
     match reasons::why_contract(sheet, contract) {
-        ContractWhy::Because(k) => {
-            let told = k.reason;
-            let reason = reasons::contract_number(told);
-            let first = first_value(told);
-            let second = second_value(told);
-            let numbers = [0, 0, reason, k.quantity, k.amount, k.price, first, second];
-            tell(&numbers, answer);
-            0
+        Ok(k) => {
+            let reason = reasons::contract_number(k.reason);
+            let first = first_value(k.reason);
+            let second = second_value(k.reason);
+            tell(
+                &[0, 0, reason, k.quantity, k.amount, k.price, first, second],
+                answer,
+            )
         }
-        ContractWhy::Refused(why) => {
-            let numbers = [why.number, why.place, 0, 0, 0, 0, 0, 0];
-            tell(&numbers, answer);
-            why.number
-        }
+        Err(why) => tell(&[why.number, why.place, 0, 0, 0, 0, 0, 0], answer),
     }
 }

@@ -2,12 +2,11 @@
 ghost use Rattle.std.specs.Prelude.{length};
 ghost use Rattle.input.specs.Input.{Within};
 
-use input::Input;
 use sheet::Counts;
 use std::env::Env;
 use std::io::{Error, ErrorKind};
 use std::rt::Files;
-use std::str;
+use std::{io, str};
 
 // Room for a sheet: one row more than the longest, so that a longer file is seen to be one.
 pub const ROOM: usize = Counts::LONGEST + 16;
@@ -32,13 +31,13 @@ fn tell_why<E: Eprint>(rt: &E, what: &str, name: &[u8], why: Error) {
 }
 
 // The file that word i names, until it ends or the buffer is full. That it cannot be read is told on standard error, by its name.
-pub fn read_named<R: Env + Files + Eprint>(rt: &R, i: usize, buf: &mut [u8]) -> Input
+pub fn read_named<R: Env + Files + Eprint>(rt: &R, i: usize, buf: &mut [u8]) -> io::Result<usize>
     ensures { Within result (length buf.new) }
 {
     let mut path = [0u8; NAME];
     let n = words::word(rt, i, &mut path);
     let got = input::read_file(rt, &path[..n], buf);
-    if let Input::Failed(why) = got {
+    if let Err(why) = got {
         tell_why(rt, "cannot be read", &path[..n], why);
     }
     got
@@ -52,18 +51,15 @@ fn say_too_long<R: Env + Eprint>(rt: &R, i: usize) {
 }
 
 // The text that word i names, whole or not at all: one that fills the buffer may go on behind it.
-pub fn read_text<R: Env + Files + Eprint>(rt: &R, i: usize, buf: &mut [u8]) -> Input
+pub fn read_text<R: Env + Files + Eprint>(rt: &R, i: usize, buf: &mut [u8]) -> io::Result<usize>
     ensures { Within result (length buf.new) }
 {
-    let got = read_named(rt, i, buf);
-    let Input::Bytes(n) = got else {
-        return got;
-    };
+    let n = read_named(rt, i, buf)?;
     if n < buf.len() {
-        return Input::Bytes(n);
+        return Ok(n);
     }
     say_too_long(rt, i);
-    Input::Failed(Error::from(ErrorKind::FileTooLarge))
+    Err(Error::from(ErrorKind::FileTooLarge))
 }
 
 // Makes a new file, of the name that word i has, of these bytes, and answers whether it did. Why it could not is told on standard error;
@@ -71,10 +67,11 @@ pub fn read_text<R: Env + Files + Eprint>(rt: &R, i: usize, buf: &mut [u8]) -> I
 pub fn write_named<R: Env + Files + Eprint>(rt: &R, i: usize, bytes: &[u8]) -> bool {
     let mut path = [0u8; NAME];
     let n = words::word(rt, i, &mut path);
-    let made = words::write_new(rt, &path[..n], bytes);
-    if let Err(why) = made {
-        tell_why(rt, "cannot be written", &path[..n], why);
-        return false;
+    match words::write_new(rt, &path[..n], bytes) {
+        Ok(()) => true,
+        Err(why) => {
+            tell_why(rt, "cannot be written", &path[..n], why);
+            false
+        }
     }
-    true
 }

@@ -46,14 +46,10 @@ pub fn fail<E: Eprint>(rt: &E, what: &str, why: Error) {
 pub fn front(bytes: &[u8], n: usize) -> &[u8]
     ensures { result.now ≡ take n bytes.now }
 {
-    if n < bytes.len() { &bytes[..n] } else { bytes }
+    &bytes[..n.min(bytes.len())]
 }
 
 // The bytes from the n-th on, if there are any.
 fn behind(bytes: &[u8], n: usize) -> &[u8] {
-    if n < bytes.len() {
-        &bytes[n..]
-    } else {
-        &bytes[..0]
-    }
+    &bytes[n.min(bytes.len())..]
 }

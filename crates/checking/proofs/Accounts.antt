@@ -8,6 +8,7 @@ use mathlib.Core.Path.{◌≡◌, refl, ap, ap₂, ◌∙◌, sym}
 use lib.ListN.{length, set, get_or, replicate, length-set, length-replicate, get_or-replicate}
 use lib.Seq.{get_or-set_same, get_or-set_other}
 use Rattle.limits.specs.Limits.{most_agents}
+use Rattle.limits.specs.declared.Contract.{Contract}
 use Rattle.sums.specs.Sums.{pick}
 use Rattle.sums.specs.Lists.{at}
 use Rattle.sums.proofs.Lists.{get_d_list_to}
@@ -27,13 +28,14 @@ use Rattle.statement.specs.Quick.{group_good}
 use Rattle.statement.specs.Hour.{stated_of, hour_good}
 use Rattle.statement.proofs.Emptied.{emptied_good}
 use Rattle.checking.proofs.Together.{decided}
-use Rattle.checking.specs.Accounts.{unseen, past_end, unsummed, SeenOf, AllSeen, SummedOf, AllSummed, fine_of, AllFine, retailer_at}
+use Rattle.checking.specs.Accounts.{deal, rows_from, unseen, past_end, unsummed, SeenOf, AllSeen, SummedOf, AllSummed}
+use Rattle.checking.specs.Accounts.{fine_of, AllFine, retailer_at}
 use Rattle.checking.specs.declared.passes.Seen.{Seen}
 use Rattle.checking.specs.declared.passes.Summed.{Summed}
 use Rattle.checking.proofs.Loops.{seen_none, seen_more, seen_room, summed_none, summed_more, summed_room, every_none, every_step}
 
 -- one account is put anew, the others are as they were
-pub put_each : {A : Type 0} (d : A) (P : ℕ → A → Type 0) (all : List A) (b n : ℕ) (r : A) → b < length all → P b r
+put_each : {A : Type 0} (d : A) (P : ℕ → A → Type 0) (all : List A) (b n : ℕ) (r : A) → b < length all → P b r
     → ((a : ℕ) → a < n → (a ≡ b → ⊥) → P a (get_or all a d)) → (a : ℕ) → a < n → P a (get_or (set all b r) a d)
 put_each {A} d P all b n r l h k a la = go (ℕ_discrete a b)
   where
@@ -109,7 +111,7 @@ all_unseen s xs all e =
           });
     }
 
-pub all_seen_more : (s : Rows) (xs : List ℕ) (i b : ℕ) (all : List Seen) (r : Seen)
+all_seen_more : (s : Rows) (xs : List ℕ) (i b : ℕ) (all : List Seen) (r : Seen)
     → i < length s.buyers
     → b ≡ at s.buyers i
     → b < most_agents
@@ -183,7 +185,7 @@ all_unsummed s xs seen all e =
           });
     }
 
-pub all_summed_more : (s : Rows) (xs : List ℕ) (seen : List Seen) (i b : ℕ) (all : List Summed) (r : Summed)
+all_summed_more : (s : Rows) (xs : List ℕ) (seen : List Seen) (i b : ℕ) (all : List Summed) (r : Summed)
     → i < length s.buyers
     → b ≡ at s.buyers i
     → b < most_agents
@@ -248,7 +250,7 @@ all_fine_none s xs ds seen sums all e =
           ∙ sym (every_none (fine_of s xs ds seen sums a));
     }
 
-pub all_fine_more : (s : Rows) (xs ds : List ℕ) (seen : List Seen) (sums : List Summed) (i b : ℕ) (all : List Bool)
+all_fine_more : (s : Rows) (xs ds : List ℕ) (seen : List Seen) (sums : List Summed) (i b : ℕ) (all : List Bool)
     (one : Bool)
     → i < length s.buyers
     → b ≡ at s.buyers i
@@ -280,6 +282,59 @@ all_fine_more s xs ds seen sums i b all one l e lb h k =
         o ∙ sym (and-true (every i (fine_of s xs ds seen sums a)))
         ∙ ap (λ (y : Bool). every i (fine_of s xs ds seen sums a) && y) (sym t)
         ∙ sym (every_step i (fine_of s xs ds seen sums a))
+
+-- ---- a row of a list of contracts
+module _ (rs : List Contract) where
+  pub rows_long : length (rows_from rs).buyers ≡ length rs
+  unfolding rows_from
+  rows_long = length_list_to (λ j. (deal rs j).buyer) (length rs)
+
+  pub prices_are : (i : ℕ) → i < length rs → at (rows_from rs).prices i ≡ (deal rs i).price
+  unfolding rows_from
+  prices_are i l = get_d_list_to 0 (λ j. (deal rs j).price) (length rs) i l
+
+  module _ (i : ℕ) (l : i < length rs) where
+    pub row_is : (at (rows_from rs).buyers i ≡ (deal rs i).buyer) × (at (rows_from rs).kinds i ≡ (deal rs i).kind)
+        × (at (rows_from rs).prices i ≡ (deal rs i).price) × (at (rows_from rs).quantities i ≡ (deal rs i).quantity)
+    unfolding rows_from
+    row_is = (
+      get_d_list_to 0 (λ j. (deal rs j).buyer) (length rs) i l,
+      get_d_list_to 0 (λ j. (deal rs j).kind) (length rs) i l,
+      get_d_list_to 0 (λ j. (deal rs j).price) (length rs) i l,
+      get_d_list_to 0 (λ j. (deal rs j).quantity) (length rs) i l,
+    )
+
+    module _ (xs : List ℕ) (lb : (deal rs i).buyer < most_agents) (hq : (deal rs i).quantity ≤ 4294967295) (hx : at xs i ≤ 4294967295)
+      where
+        abbrev b : ℕ
+        b = (deal rs i).buyer
+
+        pub seen_row : (all : List Seen) (r : Seen)
+            → Looked (get_or all b past_end) (deal rs i).kind (deal rs i).price (deal rs i).quantity (at xs i) r
+            → AllSeen (rows_from rs) xs i all → AllSeen (rows_from rs) xs (i + 1) (set all b r)
+        seen_row all r h k =
+            let w = row_is in
+            all_seen_more (rows_from rs) xs i b all r (omega (arith, rows_long)) (sym w.0) lb (omega (arith, w.3)) hx
+            (rw (w.1, w.2, w.3) h) k
+
+        pub summed_row : (seen : List Seen) (all : List Summed) (r : Summed)
+            → Added ((get_or seen b past_end).reach - 1) (above - (get_or seen b past_end).depth) ((get_or seen b past_end).top - 1)
+            (get_or all b unsummed) (deal rs i).kind (deal rs i).price (deal rs i).quantity (at xs i) r
+            → AllSummed (rows_from rs) xs seen i all → AllSummed (rows_from rs) xs seen (i + 1) (set all b r)
+        summed_row seen all r h k =
+            let w = row_is in
+            all_summed_more (rows_from rs) xs seen i b all r (omega (arith, rows_long)) (sym w.0) lb (omega (arith, w.3)) hx
+            (rw (w.1, w.2, w.3) h) k
+
+        pub fine_row : (ds : List ℕ) (seen : List Seen) (sums : List Summed) (all : List Bool) (one : Bool)
+            → one ≡ group_good (at ds b - (get_or seen b past_end).firm) (get_or seen b past_end).top (get_or sums b unsummed).cheaper
+            (get_or sums b unsummed).whole (deal rs i).kind (deal rs i).price (deal rs i).quantity (at xs i)
+            → AllFine (rows_from rs) xs ds seen sums i all
+            → AllFine (rows_from rs) xs ds seen sums (i + 1) (set all b (get_or all b false && one))
+        fine_row ds seen sums all one h k =
+            let w = row_is in
+            all_fine_more (rows_from rs) xs ds seen sums i b all one (omega (arith, rows_long)) (sym w.0) lb
+            (rw (w.1, w.2, w.3) h) k
 
 -- ---- all of it
 price_at_lem : (s : Rows) (a i : ℕ) → price (emptied s a) i ≡ at s.prices i

@@ -6,3 +6,4 @@ pub mod Accounts
 pub mod Fronts
 pub mod Refusing
 pub mod Stating
+pub mod Holdings

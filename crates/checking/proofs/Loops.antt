@@ -1,9 +1,10 @@
 -- One row more in each pass, and what the passes find together. Assumes nothing.
-use Prim.Native.Nat.{ℕ, ◌+◌, ◌-◌, ◌*◌, ◌≤◌, max}
+use Rattle.std.specs.List.{list_all, range_with_len}
+use Prim.Native.Nat.{ℕ, zero, suc, ◌+◌, ◌-◌, ◌*◌, ◌≤◌, max}
 use native.Mathlib.Numerals.{add-one}
 use native.Mathlib.Omega.{arith}
-use mathlib.Core.Bool.{Bool, true, ◌&&◌}
-use mathlib.Core.Path.{◌≡◌, refl, ap, ◌∙◌, sym}
+use mathlib.Core.Bool.{Bool, true, false, ◌&&◌, and-true}
+use mathlib.Core.Path.{◌≡◌, refl, ap, ap₂, ◌∙◌, sym}
 use lib.Dec.{ltb, eqb}
 use Rattle.sums.specs.Sums.{peak, pick}
 use Rattle.sums.proofs.Sums.{sum_none, sum_step, peak_step}
@@ -22,6 +23,36 @@ every_none t = refl
 pub every_step : (n : ℕ) (t : ℕ → Bool) → every (n + 1) t ≡ (every n t && t n)
 unfolding every
 every_step n t = rw add-one
+
+-- the test of one more
+pub every_more : (n : ℕ) (t : ℕ → Bool) (y z : Bool) → y ≡ every n t → z ≡ t n → (y && z) ≡ every (n + 1) t
+every_more n t y z e f = ap₂ (λ (a b : Bool). a && b) e f ∙ sym (every_step n t)
+
+-- the test of a range from a on is that of every index below its length
+every_first : (n : ℕ) (t : ℕ → Bool) → every (suc n) t ≡ (t 0 && every n (λ i. t (suc i)))
+unfolding every
+every_first zero t = sym (and-true (t 0))
+every_first (suc n) t = ap (λ (y : Bool). y && t (suc n)) (every_first n t) ∙ assoc (t 0) (every n (λ i. t (suc i))) (t (suc n))
+  where
+    assoc : (a b c : Bool) → ((a && b) && c) ≡ (a && (b && c))
+    assoc true b c = refl
+    assoc false b c = refl
+
+every_alike : (n : ℕ) (t u : ℕ → Bool) → ((i : ℕ) → t i ≡ u i) → every n t ≡ every n u
+unfolding every
+every_alike zero t u h = refl
+every_alike (suc n) t u h = rw (every_alike n t u h, h n)
+
+all_range : (n a : ℕ) (t : ℕ → Bool) → list_all t (range_with_len a n) ≡ every n (λ i. t (a + i))
+unfolding every
+all_range zero a t = refl
+all_range (suc n) a t =
+    ap₂ (λ (x y : Bool). x && y) (ap t (omega arith))
+    (all_range n (a + 1) t ∙ every_alike n _ _ (λ i. ap t (omega arith)))
+    ∙ sym (every_first n (λ i. t (a + i)))
+
+pub all_below : (n : ℕ) (t : ℕ → Bool) → list_all t (range_with_len 0 n) ≡ every n t
+all_below n t = all_range n 0 t ∙ every_alike n _ _ (λ i. ap t (omega arith))
 
 pub peak_none : (f : ℕ → ℕ) → peak 0 f ≡ 0
 unfolding peak

@@ -1,7 +1,9 @@
 -- What each pass over the rows of all retailers has found, agent by agent. Assumes nothing.
-use Rattle.std.specs.Prelude.{ℕ, ◌-◌, ◌*◌, ◌≤◌, ◌<◌, min, Bool, true, false, ◌&&◌, ◌||◌, List, ◌≡◌, ltb, leb, eqb, length, get_or}
+use Rattle.std.specs.Prelude.{ℕ, ◌-◌, ◌*◌, ◌≤◌, ◌<◌, min, Bool, true, false, ◌&&◌, ◌||◌, List, ◌≡◌, ltb, leb, eqb}
+use Rattle.std.specs.Prelude.{length, get_or, replicate}
 use Rattle.limits.specs.Limits.{most_agents, most_contracts}
-use Rattle.sums.specs.Lists.{at}
+use Rattle.limits.specs.declared.Contract.{Contract}
+use Rattle.sums.specs.Lists.{at, list_to}
 use Rattle.deals.specs.Deals.{kind, price, quantity}
 use Rattle.deals.specs.Hour.{Rows}
 use Rattle.statement.specs.Decide.{every}
@@ -11,8 +13,25 @@ use Rattle.checking.specs.Passes.{above, room, SeenTo, SummedTo}
 use Rattle.checking.specs.declared.passes.Seen.{Seen}
 use Rattle.checking.specs.declared.passes.Summed.{Summed}
 
-abbrev pub rows_from : (buyers kinds prices quantities : List ℕ) → Rows
-rows_from bs ks ps qs = record { buyers = bs; kinds = ks; prices = ps; quantities = qs }
+-- stands past the end of a list of these, and in each cell of an array before anything is written
+abbrev pub no_contract : Contract
+no_contract = record { seller = 0; buyer = 0; kind = 0; price = 0; quantity = 0 }
+
+abbrev pub no_contracts : List Contract
+no_contracts = replicate most_contracts no_contract
+
+abbrev pub deal : List Contract → ℕ → Contract
+deal rs j = get_or rs j no_contract
+
+-- the columns of the definitions
+unfoldable pub rows_from : List Contract → Rows
+rows_from rs =
+    record {
+      buyers = list_to (λ j. (deal rs j).buyer) (length rs);
+      kinds = list_to (λ j. (deal rs j).kind) (length rs);
+      prices = list_to (λ j. (deal rs j).price) (length rs);
+      quantities = list_to (λ j. (deal rs j).quantity) (length rs);
+    }
 
 abbrev pub unseen : Seen
 unseen = record { good = true; reach = 0; depth = 0; top = 0; firm = 0; given = 0; asked = 0 }
@@ -24,16 +43,18 @@ past_end = record { good = false; reach = 0; depth = 0; top = 0; firm = 0; given
 abbrev pub unsummed : Summed
 unsummed = record { ahead = 0; largest = 0; under = 0; cheaper = 0; whole = 0 }
 
--- four columns of one length, of no more rows than a sheet may have contracts, with an amount for each; the buyers are among agents, no
--- more than a sheet may have
-pub record Columns (bs ks ps qs xs ds : List ℕ) : Type 0 where
-  pub few : length qs ≤ most_contracts
+-- contracts, no more than a sheet may have, with an amount for each, and numbers of 32 bits; the buyers are agents that a sheet may have
+pub record Placed (rs : List Contract) (xs : List ℕ) : Type 0 where
+  pub few : length rs ≤ most_contracts
+  pub amounts : length rs ≤ length xs
+  pub buyer : (j : ℕ) → j < length rs → (deal rs j).buyer < most_agents
+  pub small : (j : ℕ) → j < length rs → ((deal rs j).price ≤ room 1) × ((deal rs j).quantity ≤ room 1) × (at xs j ≤ room 1)
+
+-- the same, where the buyers are among the agents that have these demands
+pub record Dealt (rs : List Contract) (xs ds : List ℕ) : Type 0 where
+  pub placed : Placed rs xs
   pub agents : length ds ≤ most_agents
-  pub buyers : length bs ≡ length qs
-  pub kinds : length ks ≡ length qs
-  pub prices : length ps ≡ length qs
-  pub amounts : length qs ≤ length xs
-  pub buyer : (j : ℕ) → j < length qs → at bs j < length ds
+  pub buyer : (j : ℕ) → j < length rs → (deal rs j).buyer < length ds
 
 -- agent a, after n rows
 pub record SeenOf (s : Rows) (xs : List ℕ) (n a : ℕ) (v : Seen) : Type 0 where

@@ -1,7 +1,7 @@
 -- Document 02, P6: what a check of an administrator's statement answers, for any bytes, a price and four lists. Assumes nothing.
 use Rattle.std.specs.Prelude.{ℕ, List, [], ◌∷◌}
 use Rattle.refusals.specs.Refusals.{first_of}
-use Rattle.refusals.specs.declared.Verdict.{Verdict}
+use Rattle.refusals.specs.Refusals.{Verdict}
 use Rattle.sheet.specs.Reading.{read_verdict}
 use Rattle.columns.specs.Columns.{hour_of}
 use Rattle.hour.specs.Sheet.{Sheet}

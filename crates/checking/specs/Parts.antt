@@ -1,12 +1,13 @@
 -- What the parts of a check hand on to each other. Assumes nothing.
-use Rattle.std.specs.Prelude.{ℕ, ◌+◌, ◌*◌, ◌≤◌, ◌<◌, max, Bool, false, ◌&&◌, List, [], ◌∷◌, ◌≡◌, ltb, eqb, ℤ, pos, length, get_or}
+use Rattle.std.specs.Bool.{then_some}
+use Rattle.std.specs.Prelude.{ℕ, Option, ◌+◌, ◌*◌, ◌≤◌, ◌<◌, max, Bool, false, ◌&&◌, List, [], ◌∷◌, ◌≡◌, ltb, eqb, ℤ, pos, length, get_or}
 use Rattle.sums.specs.Sums.{sum, peak, pick, keyed}
 use Rattle.sums.specs.Lists.{at}
-use Rattle.limits.specs.Limits.{most_agents, most_contracts}
+use Rattle.limits.specs.Limits.{most_agents, most_plants, most_contracts}
 use Rattle.rows.specs.Rows.{carries_losses}
 use Rattle.merit.specs.Merit.{hour_price}
 use Rattle.refusals.specs.Refusals.{bad_schedule, bad_price, bad_amounts, bad_lines, refused_unless, first_of}
-use Rattle.refusals.specs.declared.Verdict.{Verdict}
+use Rattle.refusals.specs.Refusals.{Verdict}
 use Rattle.hour.specs.Sheet.{Sheet, agents, plants, contracts, retails}
 use Rattle.hour.specs.Balance.{consumption, own_import, losses, injected}
 use Rattle.hour.specs.Lines.{money_of, cells_per_agent}
@@ -16,7 +17,9 @@ use Rattle.statement.specs.Decide.{every}
 use Rattle.statement.specs.Hour.{hour_good}
 use Rattle.statement.specs.Points.{demand_in}
 use Rattle.statement.specs.Tests.{share_test, within_test, order_test, schedule_good, price_good, amounts_good, same_money, lines_good}
+use Rattle.limits.specs.declared.Contract.{Contract}
 use Rattle.checking.specs.Passes.{room}
+use Rattle.checking.specs.Accounts.{deal}
 use Rattle.checking.specs.declared.plants.Run.{Run}
 
 -- ---- sums by agent, added to what stands in their cells: nothing overflows
@@ -44,7 +47,15 @@ abbrev pub shares_test : (kinds used figures : List ℕ) → (n losses consumed 
 shares_test ks us f n x t =
     every n (λ a. share_test (carries_losses (at ks a)) x (at us a) t (share_at f a)) && eqb (sum n (share_at f)) x
 
--- ---- the pass over the plants
+-- ---- the passes over the plants
+
+-- columns of one length, of no more rows than a sheet may have plants, with a delivery for each
+pub record Fitted (ts ms ps vs qs : List ℕ) : Type 0 where
+  pub few : length ts ≤ most_plants
+  pub musts : length ms ≡ length ts
+  pub offers : length ps ≡ length ts
+  pub available : length vs ≡ length ts
+  pub deliveries : length ts ≤ length qs
 
 -- one plant more, of this flag, must-run, offer and availability, that is to deliver q
 pub record Ran (v : Run) (flag must offer available q : ℕ) (r : Run) : Type 0 where
@@ -60,7 +71,7 @@ pub record RanTo (flags musts offers available schedule : List ℕ) (n : ℕ) (v
   pub dearest : v.dearest ≡ peak n (λ i. pick (ltb (at musts i) (at schedule i)) (at offers i))
   pub price : v.price ≡ peak n (λ i. pick (eqb (at flags i) 0 && ltb 0 (at schedule i)) (at offers i))
 
--- the plants of the sheet h, for the demand d: whether the schedule is good, its price, and what it adds to own energy
+-- the plants of the sheet h, for the demand d: whether the schedule is good, its price if it is, and what it adds to own energy
 unfoldable pub schedule_test : Sheet → (demand : ℕ) → (schedule : List ℕ) → Bool
 schedule_test h d q =
     every (plants h) (λ i. within_test (at h.must_run i) (at h.available i) (at q i))
@@ -69,11 +80,27 @@ schedule_test h d q =
     (peak (plants h) (λ j. pick (ltb (at h.must_run j) (at q j)) (at h.offers j))) (at h.offers i)
     (at h.available i) (at q i))
 
-pub record Scheduled (h : Sheet) (d : ℕ) (schedule before : List ℕ) (r : Run) (after : List ℕ) : Type 0 where
-  pub good : r.good ≡ schedule_test h d schedule
-  pub price : r.price ≡ hour_price (at h.offers) (at h.flags) (at schedule) (plants h)
+pub record Scheduled (h : Sheet) (d : ℕ) (schedule before : List ℕ) (r : Option ℕ) (after : List ℕ) : Type 0 where
+  pub price : r ≡ then_some (schedule_test h d schedule) (hour_price (at h.offers) (at h.flags) (at schedule) (plants h))
   pub own : (a : ℕ) → a < most_agents → at after a ≡ keyed (at h.holders) (at schedule) (plants h) a + at before a
   pub long : length after ≡ length before
+
+-- ---- what each agent holds of contracts, added to what stands in its cell: nothing overflows
+pub record Holdable (rs : List Contract) (xs before : List ℕ) : Type 0 where
+  pub few : length rs ≤ most_contracts
+  pub long : length rs ≤ length xs
+  pub buyer : (j : ℕ) → j < length rs → (deal rs j).buyer < most_agents
+  pub seller : (j : ℕ) → j < length rs → (deal rs j).seller < most_agents
+  pub cells : Spacious before
+
+-- after n rows
+pub record HoldingTo (rs : List Contract) (xs before : List ℕ) (n : ℕ) (after : List ℕ) : Type 0 where
+  pub each : (a : ℕ) → a < most_agents
+      → at after a ≡ keyed (λ j. (deal rs j).buyer) (at xs) n a + keyed (λ j. (deal rs j).seller) (at xs) n a + at before a
+  pub long : length after ≡ length before
+
+abbrev pub Holding : (rs : List Contract) (xs before after : List ℕ) → Type 0
+Holding rs xs before after = HoldingTo rs xs before (length rs) after
 
 -- ---- the contracts of the sheet h, on these demands: whether the amounts are good, and what each agent holds
 pub record Agreed (h : Sheet) (ds amounts before : List ℕ) (r : Bool) (after : List ℕ) : Type 0 where
@@ -95,9 +122,17 @@ line_at ks os is hs p f m a =
     line_test (at ks a) (at os a) (at is a) (at hs a) p (at f (k + 1)) (at f (k + 2)) (at f (k + 3)) (at f (k + 4)) (at f (k + 5))
     (get_or m a (pos 0))
 
+-- ---- columns with a cell for each agent of the sheet h
+pub record Cells (h : Sheet) (ks us is js : List ℕ) : Type 0 where
+  pub kinds : length ks ≡ agents h
+  pub taken : length us ≡ agents h
+  pub imports : length is ≡ agents h
+  pub injects : length js ≡ agents h
+
 -- ---- the agents of the sheet h, as weighing has them: kinds, consumptions, own imports and what small generators deliver, and the
 -- losses
 pub record Weighs (h : Sheet) (ks us is js : List ℕ) (x : ℕ) : Type 0 where
+  pub long : Cells h ks us is js
   pub kinds : (a : ℕ) → a < agents h → at ks a ≡ at h.kinds a
   pub used : (a : ℕ) → a < agents h → at us a ≡ consumption h a
   pub imports : (a : ℕ) → a < agents h → at is a ≡ own_import h a
@@ -106,6 +141,7 @@ pub record Weighs (h : Sheet) (ks us is js : List ℕ) (x : ℕ) : Type 0 where
 
 -- the same with the demands that their shares make
 pub record Demands (h : Sheet) (l : Lent) (ks ds is js : List ℕ) : Type 0 where
+  pub long : Cells h ks ds is js
   pub kinds : (a : ℕ) → a < agents h → at ks a ≡ at h.kinds a
   pub demands : (a : ℕ) → a < agents h → at ds a ≡ demand_in h l a
   pub small : (a : ℕ) → a < agents h → at ds a ≤ room 1

@@ -3,16 +3,9 @@ ghost use Rattle.std.specs.Prelude.{◌≡◌, ◌*◌, ◌≤◌, length};
 ghost use Rattle.limits.specs.Limits.{most_agents, most_offer};
 ghost use Rattle.hour.specs.Lines.{cells_per_agent};
 ghost use Rattle.statement.specs.Decide.{every};
-ghost use Rattle.statement.specs.Tests.{same_money};
 ghost use Rattle.checking.specs.Parts.{line_test, line_at};
 
 use limits::Agent;
-
-fn same(x: i64, y: i64) -> bool
-    ensures { result ≡ same_money x y }
-{
-    (x <= y) & (y <= x)
-}
 
 // A line of agent's kind, own energy, import and contracts, against the five cells and the money that are stated.
 fn line_good(
@@ -34,36 +27,35 @@ fn line_good(
     let buys = lines::bought(kind, c1, import, c3);
     let sells = lines::sold(kind, c1, c3);
     let due = lines::owed(c5, c4, price);
-    let paid = same(money, due);
-    (sums::wide(c1) == own)
+    (u64::from(c1) == own)
         & (c2 == import)
-        & (sums::wide(c3) == contracted)
-        & (sums::wide(c4) == buys)
+        & (u64::from(c3) == contracted)
+        & (u64::from(c4) == buys)
         & (c5 == sells)
-        & paid
+        & (money == due)
 }
 
 // All lines good.
 pub(crate) fn good(
-    kinds: &[u32; Agent::MOST],
-    own: &[u64; Agent::MOST],
-    imports: &[u32; Agent::MOST],
-    held: &[u64; Agent::MOST],
-    n: usize,
+    kinds: &[u32],
+    own: &[u64],
+    imports: &[u32],
+    held: &[u64],
     price: u32,
     figures: &[u32],
     money: &[i64],
 ) -> bool
-    requires { (n ≤ most_agents) × (price ≤ most_offer) × (cells_per_agent * n ≤ length figures.now) × (n ≤ length money.now) }
-    ensures { result ≡ every n
+    requires price_fits { price ≤ most_offer }
+    requires in_bounds { (length kinds.now ≤ most_agents) × (length kinds.now ≤ length own.now)
+        × (length kinds.now ≤ length imports.now) × (length kinds.now ≤ length held.now)
+        × (cells_per_agent * length kinds.now ≤ length figures.now) × (length kinds.now ≤ length money.now) }
+    ensures { result ≡ every (length kinds.now)
         (line_at kinds.now own.now imports.now held.now price
         figures.now money.now) }
 {
-    let mut fine = true;
-    let mut a = 0;
-    while a < n {
+    (0..kinds.len()).all(|a| {
         let k = Agent::CELLS * a;
-        let one = line_good(
+        line_good(
             kinds[a],
             own[a],
             imports[a],
@@ -75,9 +67,6 @@ pub(crate) fn good(
             figures[k + 4],
             figures[k + 5],
             money[a],
-        );
-        fine = fine & one;
-        a += 1;
-    }
-    fine
+        )
+    })
 }

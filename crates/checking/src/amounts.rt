@@ -1,51 +1,48 @@
 // Point 24: their contract amounts.
 ghost use Rattle.std.specs.Prelude.{◌≡◌, ◌≤◌, length};
-ghost use Rattle.sums.specs.Lists.{at, Filled};
+ghost use Rattle.sums.specs.Lists.{Filled};
 ghost use Rattle.sheet.specs.Reading.{read_of};
-ghost use Rattle.sheet.specs.declared.Reading.{Reading};
+ghost use Rattle.sheet.specs.Asking.{contract_at};
 ghost use Rattle.columns.specs.Columns.{columns_of};
-ghost use Rattle.checking.specs.Parts.{Spacious, Agreed};
+ghost use Rattle.checking.specs.Accounts.{no_contract, no_contracts};
+ghost use Rattle.checking.specs.Parts.{Spacious, Holdable, Holding, Agreed};
 
-use crate::{passes, tally};
+use crate::passes;
 use limits::Contract;
 use sheet::Counts;
 
-// The contract rows by their columns.
-fn columns(
-    bytes: &[u8],
-    c: Counts,
-    sellers: &mut [u32],
-    buyers: &mut [u32],
-    kinds: &mut [u32],
-    prices: &mut [u32],
-    quantities: &mut [u32],
-)
-    requires bytes_value { read_of bytes.now ≡ Reading.Accepted c }
-    requires contracts_in_bounds { (c.contracts ≤ length sellers.old) × (c.contracts ≤ length buyers.old) × (c.contracts ≤ length kinds.old)
-        × (c.contracts ≤ length prices.old) × (c.contracts ≤ length quantities.old) }
-    ensures { (Filled 0 sellers.old sellers.new c.contracts (at (columns_of bytes.now c).sellers))
-        × (Filled 0 buyers.old buyers.new c.contracts (at (columns_of bytes.now c).deals.buyers))
-        × (Filled 0 kinds.old kinds.new c.contracts (at (columns_of bytes.now c).deals.kinds))
-        × (Filled 0 prices.old prices.new c.contracts (at (columns_of bytes.now c).deals.prices))
-        × (Filled 0 quantities.old quantities.new c.contracts
-        (at (columns_of bytes.now c).deals.quantities)) }
+// The contract rows, and behind them rows of zeros.
+fn contracts(bytes: &[u8], c: Counts) -> [Contract; Contract::MOST]
+    requires { read_of bytes.now ≡ Ok c }
+    ensures { Filled no_contract no_contracts result c.contracts (contract_at bytes.now c) }
 {
     let section = sheet::asking::section_of(bytes, c, Contract::SECTION);
-    let n = c.contracts;
-    let mut j = 0;
-    while j < n {
-        let k = rows::contract_of(octets::row_at(section, j));
-        sellers[j] = k.seller;
-        buyers[j] = k.buyer;
-        kinds[j] = k.kind;
-        prices[j] = k.price;
-        quantities[j] = k.quantity;
-        j += 1;
+    let mut rows = [Contract {
+        seller: 0,
+        buyer: 0,
+        kind: 0,
+        price: 0,
+        quantity: 0,
+    }; Contract::MOST];
+    for j in 0..c.contracts {
+        rows[j] = rows::contract_of(octets::row_at(section, j));
+    }
+    rows
+}
+
+// Adds to each agent's cell what it buys and sells, in one sum, since nobody does both.
+fn hold(rows: &[Contract], amounts: &[u32], held: &mut [u64])
+    requires { Holdable rows.now amounts.now held.old }
+    ensures { Holding rows.now amounts.now held.old held.new }
+{
+    for (j, &row) in rows.iter().enumerate() {
+        let amount = u64::from(amounts[j]);
+        held[row.buyer as usize] += amount;
+        held[row.seller as usize] += amount;
     }
 }
 
-// Whether the amounts follow, on these demands; what each agent holds is added to its cell, bought and sold in one sum, since nobody
-// does both.
+// Whether the amounts follow, on these demands; what each agent holds is added to its cell.
 pub(crate) fn judge(
     bytes: &[u8],
     c: Counts,
@@ -53,34 +50,13 @@ pub(crate) fn judge(
     amounts: &[u32],
     held: &mut [u64],
 ) -> bool
-    requires bytes_value { read_of bytes.now ≡ Reading.Accepted c }
+    requires bytes_value { read_of bytes.now ≡ Ok c }
     requires contracts_in_bounds { (c.contracts ≤ length amounts.now) × (length demands.now ≡ c.agents) × Spacious held.old }
     ensures { Agreed (columns_of bytes.now c) demands.now amounts.now
         held.old result held.new }
 {
-    let n = c.contracts;
-    let mut sellers = [0u32; Contract::MOST];
-    let mut buyers = [0u32; Contract::MOST];
-    let mut kinds = [0u32; Contract::MOST];
-    let mut prices = [0u32; Contract::MOST];
-    let mut quantities = [0u32; Contract::MOST];
-    columns(
-        bytes,
-        c,
-        &mut sellers,
-        &mut buyers,
-        &mut kinds,
-        &mut prices,
-        &mut quantities,
-    );
-    tally::tally(&buyers[..n], amounts, held);
-    tally::tally(&sellers[..n], amounts, held);
-    passes::hour_follows(
-        &buyers[..n],
-        &kinds[..n],
-        &prices[..n],
-        &quantities[..n],
-        amounts,
-        demands,
-    )
+    let all = contracts(bytes, c);
+    let rows = &all[..c.contracts];
+    hold(rows, amounts, held);
+    passes::hour_follows(rows, amounts, demands)
 }

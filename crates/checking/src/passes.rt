@@ -8,14 +8,14 @@ ghost use Rattle.statement.specs.Decide.{every, is_near};
 ghost use Rattle.statement.specs.Quick.{shape_good, group_good};
 ghost use Rattle.statement.specs.Hour.{hour_good};
 ghost use Rattle.checking.specs.Passes.{above, room, Looked, Added};
-ghost use Rattle.checking.specs.Accounts.{rows_from, Columns, AllSeen, AllSummed, AllFine, retailer_test, retailer_at};
+ghost use Rattle.checking.specs.Accounts.{rows_from, Placed, Dealt, AllSeen, AllSummed, AllFine, retailer_test, retailer_at};
 
 use crate::numbers;
 use limits::{Agent, Contract};
 
 // What the first pass finds: whether kinds 1 and 2 are in full or 0; one above the highest price at which kind 2 is given
 // something, how far below 2^32 the lowest stands at which it is not, one above the highest at which kind 3 is given something; what
-// kinds 1 and 2 are given, what kind 3 is given, and what it has.
+// kinds 1 and 2 are given, what kind 3 is given, and what it has. `good` is a finding like the others: they hold whatever it says.
 #[derive(Clone, Copy)]
 pub(crate) struct Seen {
     pub good: bool,
@@ -38,45 +38,50 @@ pub(crate) struct Summed {
 }
 
 // The higher of a and one above the price p, where the test holds.
+#[tactic(auto, unfolding(sums::specs::Sums::pick))]
 fn raised(a: u64, t: bool, p: u32) -> u64
     ensures { result ≡ max a (pick t (p + 1)) }
 {
     if t {
-        return numbers::higher(a, sums::wide(p) + 1);
+        return a.max(u64::from(p) + 1);
     }
     a
 }
 
 // The higher of a and the distance from the price p up to 2^32, where the test holds.
+#[tactic(auto, unfolding(sums::specs::Sums::pick))]
 fn sunk(a: u64, t: bool, p: u32) -> u64
     ensures { result ≡ max a (pick t (above - p)) }
 {
     if t {
-        return numbers::higher(a, 4294967296 - sums::wide(p));
+        return a.max((1 << 32) - u64::from(p));
     }
     a
 }
 
+#[tactic(auto, unfolding(sums::specs::Sums::pick))]
 pub(crate) fn most_when(a: u32, t: bool, x: u32) -> u32
     ensures { result ≡ max a (pick t x) }
 {
     if t {
-        return sums::most(a, x);
+        return a.max(x);
     }
     a
 }
 
+#[tactic(auto, unfolding(sums::specs::Sums::pick))]
 fn more_when(a: u64, t: bool, x: u32) -> u64
     requires { a ≤ room (4 * most_contracts) }
     ensures { (result ≡ a + pick t x) × (result ≤ a + 4294967295) }
 {
     if t {
-        return a + sums::wide(x);
+        return a + u64::from(x);
     }
     a
 }
 
 // Kind 1 in full, kind 2 in full or 0.
+#[tactic(auto, unfolding(statement::specs::Quick::shape_good))]
 fn shape_good(k: u32, q: u32, x: u32) -> bool
     ensures { result ≡ shape_good k q x }
 {
@@ -89,93 +94,77 @@ fn shape_good(k: u32, q: u32, x: u32) -> bool
     true
 }
 
-fn look(v: Seen, k: u32, p: u32, q: u32, x: u32) -> Seen
+fn look(v: Seen, row: Contract, amount: u32) -> Seen
     requires { (v.firm ≤ room most_contracts) × (v.given ≤ room most_contracts) × (v.asked ≤ room most_contracts) }
-    ensures { Looked v k p q x result }
+    ensures { Looked v row.kind row.price row.quantity amount result }
 {
-    let good = shape_good(k, q, x);
-    let two = k == Contract::CONDITIONAL;
-    let three = k == Contract::DEMANDED;
-    let some = 0 < x;
-    let none = (x == 0) & (0 < q);
-    let reach = raised(v.reach, two & some, p);
-    let depth = sunk(v.depth, two & none, p);
-    let top = raised(v.top, three & some, p);
-    let firm = more_when(v.firm, k < Contract::DEMANDED, x);
-    let given = more_when(v.given, three, x);
-    let asked = more_when(v.asked, three, q);
+    let two = row.kind == Contract::CONDITIONAL;
+    let three = row.kind == Contract::DEMANDED;
+    let some = 0 < amount;
+    let none = (amount == 0) & (0 < row.quantity);
     Seen {
-        good: v.good & good,
-        reach: reach,
-        depth: depth,
-        top: top,
-        firm: firm,
-        given: given,
-        asked: asked,
+        good: v.good & shape_good(row.kind, row.quantity, amount),
+        reach: raised(v.reach, two & some, row.price),
+        depth: sunk(v.depth, two & none, row.price),
+        top: raised(v.top, three & some, row.price),
+        firm: more_when(v.firm, row.kind < Contract::DEMANDED, amount),
+        given: more_when(v.given, three, amount),
+        asked: more_when(v.asked, three, row.quantity),
     }
 }
 
-fn firm_below(a: u64, k: u32, p: u32, u: u64, q: u32) -> u64
+fn firm_below(a: u64, row: Contract, u: u64) -> u64
     requires { a ≤ room (4 * most_contracts) }
-    ensures { (result ≡ a + pick (ltb k demanded && ltb p u) q) × (result ≤ a + 4294967295) }
+    ensures { (result ≡ a + pick (ltb row.kind demanded && ltb row.price u) row.quantity) × (result ≤ a + 4294967295) }
 {
-    let price = sums::wide(p);
-    more_when(a, (k < Contract::DEMANDED) & (price < u), q)
+    let cheap = u64::from(row.price) < u;
+    more_when(a, (row.kind < Contract::DEMANDED) & cheap, row.quantity)
 }
 
-fn demanded_below(a: u64, k: u32, p: u32, u: u64, q: u32) -> u64
+fn demanded_below(a: u64, row: Contract, u: u64) -> u64
     requires { a ≤ room (4 * most_contracts) }
-    ensures { (result ≡ a + pick (eqb k demanded && ltb p u) q) × (result ≤ a + 4294967295) }
+    ensures { (result ≡ a + pick (eqb row.kind demanded && ltb row.price u) row.quantity) × (result ≤ a + 4294967295) }
 {
-    let price = sums::wide(p);
-    more_when(a, (k == Contract::DEMANDED) & (price < u), q)
+    let cheap = u64::from(row.price) < u;
+    more_when(a, (row.kind == Contract::DEMANDED) & cheap, row.quantity)
 }
 
-fn at_price(a: u64, k: u32, which: u32, p: u32, u: u64, x: u32) -> u64
+fn at_price(a: u64, row: Contract, which: u32, u: u64, x: u32) -> u64
     requires { a ≤ room (4 * most_contracts) }
-    ensures { (result ≡ a + pick (eqb k which && eqb p u) x) × (result ≤ a + 4294967295) }
+    ensures { (result ≡ a + pick (eqb row.kind which && eqb row.price u) x) × (result ≤ a + 4294967295) }
 {
-    let price = sums::wide(p);
-    more_when(a, (k == which) & (price == u), x)
+    let same = u64::from(row.price) == u;
+    more_when(a, (row.kind == which) & same, x)
 }
 
-fn largest_at(a: u32, k: u32, p: u32, u: u64, x: u32) -> u32
-    ensures { result ≡ max a (pick (eqb k conditional && eqb p u) x) }
+fn largest_at(a: u32, row: Contract, u: u64, x: u32) -> u32
+    ensures { result ≡ max a (pick (eqb row.kind conditional && eqb row.price u) x) }
 {
-    let price = sums::wide(p);
-    most_when(a, (k == Contract::CONDITIONAL) & (price == u), x)
+    let same = u64::from(row.price) == u;
+    most_when(a, (row.kind == Contract::CONDITIONAL) & same, x)
 }
 
-fn add(u: u64, w: u64, g: u64, v: Summed, k: u32, p: u32, q: u32, x: u32) -> Summed
+fn add(u: u64, w: u64, g: u64, v: Summed, row: Contract, amount: u32) -> Summed
     requires { (v.ahead ≤ room (2 * most_contracts)) × (v.under ≤ room (3 * most_contracts)) × (v.cheaper ≤ room most_contracts)
         × (v.whole ≤ room most_contracts) }
-    ensures { Added u w g v k p q x result }
+    ensures { Added u w g v row.kind row.price row.quantity amount result }
 {
-    let cheap = firm_below(v.ahead, k, p, u, q);
-    let ahead = at_price(cheap, k, Contract::CONDITIONAL, p, u, x);
-    let largest = largest_at(v.largest, k, p, u, x);
-    let lower = firm_below(v.under, k, p, w, q);
-    let taken = at_price(lower, k, Contract::CONDITIONAL, p, w, x);
-    let under = at_price(taken, k, Contract::FIXED, p, w, q);
-    let cheaper = demanded_below(v.cheaper, k, p, g, q);
-    let whole = at_price(v.whole, k, Contract::DEMANDED, p, g, q);
+    let cheap = firm_below(v.ahead, row, u);
+    let lower = firm_below(v.under, row, w);
+    let taken = at_price(lower, row, Contract::CONDITIONAL, w, amount);
     Summed {
-        ahead: ahead,
-        largest: largest,
-        under: under,
-        cheaper: cheaper,
-        whole: whole,
+        ahead: at_price(cheap, row, Contract::CONDITIONAL, u, amount),
+        largest: largest_at(v.largest, row, u, amount),
+        under: at_price(taken, row, Contract::FIXED, w, row.quantity),
+        cheaper: demanded_below(v.cheaper, row, g),
+        whole: at_price(v.whole, row, Contract::DEMANDED, g, row.quantity),
     }
 }
 
 fn rest(left: u32, c: u64) -> u32
     ensures { result ≡ left - c }
 {
-    if sums::wide(left) < c {
-        0
-    } else {
-        left - c as u32
-    }
+    u64::from(left).saturating_sub(c) as u32
 }
 
 // A row of the group that is the last to be given something.
@@ -183,56 +172,48 @@ fn in_group(left: u32, c: u64, t: u64, q: u32, x: u32) -> bool
     requires { (c ≤ room most_contracts) × (t ≤ room most_contracts) }
     ensures { result ≡ cond (leb (c + t) left) (eqb x q) (is_near (left - c) q t x) }
 {
-    if c + t <= sums::wide(left) {
+    if c + t <= u64::from(left) {
         return x == q;
     }
     numbers::near(rest(left, c), q, t, x)
 }
 
-fn group_good(left: u32, g: u64, c: u64, t: u64, k: u32, p: u32, q: u32, x: u32) -> bool
+#[tactic(auto, unfolding(statement::specs::Quick::group_good))]
+fn group_good(left: u32, g: u64, c: u64, t: u64, row: Contract, amount: u32) -> bool
     requires { (c ≤ room most_contracts) × (t ≤ room most_contracts) }
-    ensures { result ≡ group_good left g c t k p q x }
+    ensures { result ≡ group_good left g c t row.kind row.price row.quantity amount }
 {
-    if k != Contract::DEMANDED {
+    if row.kind != Contract::DEMANDED {
         return true;
     }
-    let next = sums::wide(p) + 1;
+    let next = u64::from(row.price) + 1;
     if next < g {
-        return x == q;
+        return amount == row.quantity;
     }
     if next != g {
         return true;
     }
-    in_group(left, c, t, q, x)
+    in_group(left, c, t, row.quantity, amount)
 }
 
 // What the passes find, put together, where `left` is what kinds 1 and 2 leave of the demand d.
 fn verdict(v: Seen, z: Summed, groups: bool, left: u32, d: u32) -> bool
     ensures { result ≡ retailer_test v z groups left d }
 {
-    let demand = sums::wide(d);
-    let largest = sums::wide(z.largest);
-    let ahead = numbers::less_wide(z.ahead, largest);
-    let most = sums::wide(left);
-    let share = numbers::lower(most, v.asked);
+    let demand = u64::from(d);
+    let largest = u64::from(z.largest);
+    let ahead = z.ahead.saturating_sub(largest);
+    let most = u64::from(left);
+    let share = most.min(v.asked);
     let last = (v.reach == 0) | (ahead < demand);
     let first = (v.depth == 0) | (demand <= z.under);
     v.good & (last & (first & (groups & (v.given == share))))
 }
 
 // The first pass over the rows of all retailers.
-fn look_rows(
-    buyers: &[u32],
-    kinds: &[u32],
-    prices: &[u32],
-    quantities: &[u32],
-    amounts: &[u32],
-    demands: &[u32],
-) -> [Seen; Agent::MOST]
-    requires { Columns buyers.now kinds.now prices.now quantities.now amounts.now demands.now }
-    ensures { AllSeen
-        (rows_from buyers.now kinds.now prices.now quantities.now)
-        amounts.now (length quantities.now) result }
+fn look_rows(rows: &[Contract], amounts: &[u32]) -> [Seen; Agent::MOST]
+    requires { Placed rows.now amounts.now }
+    ensures { AllSeen (rows_from rows.now) amounts.now (length rows.now) result }
 {
     let mut all = [Seen {
         good: true,
@@ -243,43 +224,29 @@ fn look_rows(
         given: 0,
         asked: 0,
     }; Agent::MOST];
-    let mut i = 0;
-    while i < quantities.len() {
-        let b = buyers[i] as usize;
-        let v = all[b];
-        let s = look(v, kinds[i], prices[i], quantities[i], amounts[i]);
-        all[b] = s;
-        i += 1;
+    for (i, &row) in rows.iter().enumerate() {
+        let b = row.buyer as usize;
+        all[b] = look(all[b], row, amounts[i]);
     }
     all
 }
 
 // One row more in the sums of its buyer, of whom the first pass found v.
-fn add_at(v: Seen, z: Summed, k: u32, p: u32, q: u32, x: u32) -> Summed
+fn add_at(v: Seen, z: Summed, row: Contract, amount: u32) -> Summed
     requires { (z.ahead ≤ room (2 * most_contracts)) × (z.under ≤ room (3 * most_contracts)) × (z.cheaper ≤ room most_contracts)
         × (z.whole ≤ room most_contracts) }
-    ensures { Added (v.reach - 1) (above - v.depth) (v.top - 1) z k p q x result }
+    ensures { Added (v.reach - 1) (above - v.depth) (v.top - 1) z row.kind row.price row.quantity amount result }
 {
-    let u = numbers::less_wide(v.reach, 1);
-    let w = numbers::less_wide(4294967296, v.depth);
-    let g = numbers::less_wide(v.top, 1);
-    add(u, w, g, z, k, p, q, x)
+    let u = v.reach.saturating_sub(1);
+    let w = (1u64 << 32).saturating_sub(v.depth);
+    let g = v.top.saturating_sub(1);
+    add(u, w, g, z, row, amount)
 }
 
 // The second pass.
-fn add_rows(
-    buyers: &[u32],
-    kinds: &[u32],
-    prices: &[u32],
-    quantities: &[u32],
-    amounts: &[u32],
-    demands: &[u32],
-    seen: [Seen; Agent::MOST],
-) -> [Summed; Agent::MOST]
-    requires { Columns buyers.now kinds.now prices.now quantities.now amounts.now demands.now × (length seen ≡ most_agents) }
-    ensures { AllSummed
-        (rows_from buyers.now kinds.now prices.now quantities.now)
-        amounts.now seen (length quantities.now) result }
+fn add_rows(rows: &[Contract], amounts: &[u32], seen: &[Seen; Agent::MOST]) -> [Summed; Agent::MOST]
+    requires { Placed rows.now amounts.now }
+    ensures { AllSummed (rows_from rows.now) amounts.now seen.now (length rows.now) result }
 {
     let mut all = [Summed {
         ahead: 0,
@@ -288,107 +255,63 @@ fn add_rows(
         cheaper: 0,
         whole: 0,
     }; Agent::MOST];
-    let mut i = 0;
-    while i < quantities.len() {
-        let b = buyers[i] as usize;
-        let v = seen[b];
-        let z = all[b];
-        let s = add_at(v, z, kinds[i], prices[i], quantities[i], amounts[i]);
-        all[b] = s;
-        i += 1;
+    for (i, &row) in rows.iter().enumerate() {
+        let b = row.buyer as usize;
+        all[b] = add_at(seen[b], all[b], row, amounts[i]);
     }
     all
 }
 
-fn group_at(d: u32, v: Seen, z: Summed, k: u32, p: u32, q: u32, x: u32) -> bool
+fn group_at(d: u32, v: Seen, z: Summed, row: Contract, amount: u32) -> bool
     requires { (z.cheaper ≤ room most_contracts) × (z.whole ≤ room most_contracts) }
-    ensures { result ≡ group_good (d - v.firm) v.top z.cheaper z.whole k p q x }
+    ensures { result ≡ group_good (d - v.firm) v.top z.cheaper z.whole row.kind row.price row.quantity amount }
 {
-    group_good(rest(d, v.firm), v.top, z.cheaper, z.whole, k, p, q, x)
+    group_good(rest(d, v.firm), v.top, z.cheaper, z.whole, row, amount)
 }
 
 // The third pass.
 fn group_rows(
-    buyers: &[u32],
-    kinds: &[u32],
-    prices: &[u32],
-    quantities: &[u32],
+    rows: &[Contract],
     amounts: &[u32],
     demands: &[u32],
-    seen: [Seen; Agent::MOST],
-    sums: [Summed; Agent::MOST],
+    seen: &[Seen; Agent::MOST],
+    sums: &[Summed; Agent::MOST],
 ) -> [bool; Agent::MOST]
-    requires { Columns buyers.now kinds.now prices.now quantities.now amounts.now demands.now
-        × (length seen ≡ most_agents)
-        × AllSummed (rows_from buyers.now kinds.now prices.now quantities.now) amounts.now seen (length quantities.now) sums }
-    ensures { AllFine
-        (rows_from buyers.now kinds.now prices.now quantities.now)
-        amounts.now demands.now seen sums (length quantities.now) result }
+    requires { Dealt rows.now amounts.now demands.now
+        × AllSummed (rows_from rows.now) amounts.now seen.now (length rows.now) sums.now }
+    ensures { AllFine (rows_from rows.now) amounts.now demands.now seen.now sums.now (length rows.now) result }
 {
     let mut all = [true; Agent::MOST];
-    let mut i = 0;
-    while i < quantities.len() {
-        let b = buyers[i] as usize;
-        let v = seen[b];
-        let z = sums[b];
-        let one = group_at(
-            demands[b],
-            v,
-            z,
-            kinds[i],
-            prices[i],
-            quantities[i],
-            amounts[i],
-        );
-        let old = all[b];
-        all[b] = old & one;
-        i += 1;
+    for (i, &row) in rows.iter().enumerate() {
+        let b = row.buyer as usize;
+        all[b] &= group_at(demands[b], seen[b], sums[b], row, amounts[i]);
     }
     all
 }
 
 // All agents.
 fn agents_good(
-    seen: [Seen; Agent::MOST],
-    sums: [Summed; Agent::MOST],
-    fine: [bool; Agent::MOST],
+    seen: &[Seen; Agent::MOST],
+    sums: &[Summed; Agent::MOST],
+    fine: &[bool; Agent::MOST],
     demands: &[u32],
 ) -> bool
-    requires { (length demands.now ≤ most_agents) × (length seen ≡ most_agents) × (length sums ≡ most_agents)
-        × (length fine ≡ most_agents) }
-    ensures { result ≡ every (length demands.now) (retailer_at seen sums fine demands.now) }
+    requires { length demands.now ≤ most_agents }
+    ensures { result ≡ every (length demands.now) (retailer_at seen.now sums.now fine.now demands.now) }
 {
-    let mut ok = true;
-    let mut b = 0;
-    while b < demands.len() {
-        let v = seen[b];
-        let z = sums[b];
-        let d = demands[b];
-        let one = verdict(v, z, fine[b], rest(d, v.firm), d);
-        ok = ok & one;
-        b += 1;
-    }
-    ok
+    (0..demands.len()).all(|b| {
+        let left = rest(demands[b], seen[b].firm);
+        verdict(seen[b], sums[b], fine[b], left, demands[b])
+    })
 }
 
 // Whether the stated amounts of an hour's contracts follow document 01, for some order of equal prices.
-pub(crate) fn hour_follows(
-    buyers: &[u32],
-    kinds: &[u32],
-    prices: &[u32],
-    quantities: &[u32],
-    amounts: &[u32],
-    demands: &[u32],
-) -> bool
-    requires { Columns buyers.now kinds.now prices.now quantities.now amounts.now demands.now }
-    ensures { result ≡ hour_good
-        (rows_from buyers.now kinds.now prices.now quantities.now)
-        demands.now amounts.now }
+pub(crate) fn hour_follows(rows: &[Contract], amounts: &[u32], demands: &[u32]) -> bool
+    requires { Dealt rows.now amounts.now demands.now }
+    ensures { result ≡ hour_good (rows_from rows.now) demands.now amounts.now }
 {
-    let seen = look_rows(buyers, kinds, prices, quantities, amounts, demands);
-    let sums = add_rows(buyers, kinds, prices, quantities, amounts, demands, seen);
-    let fine = group_rows(
-        buyers, kinds, prices, quantities, amounts, demands, seen, sums,
-    );
-    agents_good(seen, sums, fine, demands)
+    let seen = look_rows(rows, amounts);
+    let sums = add_rows(rows, amounts, &seen);
+    let fine = group_rows(rows, amounts, demands, &seen, &sums);
+    agents_good(&seen, &sums, &fine, demands)
 }

@@ -3,25 +3,24 @@ ghost use Rattle.std.specs.Prelude.{◌≡◌, ◌≤◌, length};
 ghost use Rattle.sums.specs.Lists.{at};
 ghost use Rattle.limits.specs.Limits.{most_plants};
 ghost use Rattle.sheet.specs.Reading.{read_of};
-ghost use Rattle.sheet.specs.declared.Reading.{Reading};
 ghost use Rattle.columns.specs.Columns.{columns_of};
 ghost use Rattle.statement.specs.Decide.{every};
 ghost use Rattle.statement.specs.Tests.{order_test};
 ghost use Rattle.checking.specs.Passes.{room};
-ghost use Rattle.checking.specs.Parts.{Ran, RanTo, Spacious, Scheduled};
+ghost use Rattle.checking.specs.Parts.{Ran, RanTo, Fitted, Spacious, Scheduled};
 
 use crate::{passes, tally};
 use limits::Plant;
 use sheet::Counts;
 
 // What a pass over the plants finds: whether each stands within its bounds, what they deliver together, the dearest offer above a
-// must-run, and the highest flexible one that is scheduled.
+// must-run, and the highest flexible one that is scheduled. `good` is a finding like the others, and they hold whatever it says.
 #[derive(Clone, Copy)]
-pub(crate) struct Run {
-    pub good: bool,
-    pub total: u64,
-    pub dearest: u32,
-    pub price: u32,
+struct Run {
+    good: bool,
+    total: u64,
+    dearest: u32,
+    price: u32,
 }
 
 // One plant more, which is to deliver q.
@@ -29,29 +28,28 @@ fn run_one(v: Run, flag: u32, must: u32, offer: u32, available: u32, q: u32) -> 
     requires { v.total ≤ room most_plants }
     ensures { Ran v flag must offer available q result }
 {
-    let total = v.total + sums::wide(q);
-    let dearest = passes::most_when(v.dearest, must < q, offer);
-    let price = passes::most_when(v.price, (flag == 0) & (0 < q), offer);
     Run {
         good: v.good & ((must <= q) & (q <= available)),
-        total: total,
-        dearest: dearest,
-        price: price,
+        total: v.total + u64::from(q),
+        dearest: passes::most_when(v.dearest, must < q, offer),
+        price: passes::most_when(v.price, (flag == 0) & (0 < q), offer),
     }
 }
 
-// The first pass, over n plants.
-fn run_all(
-    flags: &[u32; Plant::MOST],
-    musts: &[u32; Plant::MOST],
-    offers: &[u32; Plant::MOST],
-    available: &[u32; Plant::MOST],
-    n: usize,
-    schedule: &[u32],
-) -> Run
-    requires { (n ≤ most_plants) × (n ≤ length schedule.now) }
-    ensures { RanTo flags.now musts.now offers.now available.now
-        schedule.now n result }
+// The plants by their columns, as `ground` reads them for settling too.
+#[derive(Clone, Copy)]
+struct Fleet<'a> {
+    flags: &'a [u32],
+    musts: &'a [u32],
+    offers: &'a [u32],
+    available: &'a [u32],
+}
+
+// The first pass.
+fn run_all(fleet: Fleet, schedule: &[u32]) -> Run
+    requires { Fitted fleet.flags.now fleet.musts.now fleet.offers.now fleet.available.now schedule.now }
+    ensures { RanTo fleet.entry.flags.now fleet.entry.musts.now fleet.entry.offers.now fleet.entry.available.now
+        schedule.now (length fleet.entry.flags.now) result }
 {
     let mut v = Run {
         good: true,
@@ -59,10 +57,15 @@ fn run_all(
         dearest: 0,
         price: 0,
     };
-    let mut i = 0;
-    while i < n {
-        v = run_one(v, flags[i], musts[i], offers[i], available[i], schedule[i]);
-        i += 1;
+    for i in 0..fleet.flags.len() {
+        v = run_one(
+            v,
+            fleet.flags[i],
+            fleet.musts[i],
+            fleet.offers[i],
+            fleet.available[i],
+            schedule[i],
+        );
     }
     v
 }
@@ -75,30 +78,28 @@ fn placed(dearest: u32, offer: u32, available: u32, q: u32) -> bool
 }
 
 // The second pass.
-fn in_order(
-    offers: &[u32; Plant::MOST],
-    available: &[u32; Plant::MOST],
-    n: usize,
-    schedule: &[u32],
-    dearest: u32,
-) -> bool
-    requires { (n ≤ most_plants) × (n ≤ length schedule.now) }
-    ensures { result ≡ every n
-        (λ i. order_test dearest (at offers.now i) (at available.now i) (at schedule.now i)) }
+fn in_order(fleet: Fleet, schedule: &[u32], dearest: u32) -> bool
+    requires { Fitted fleet.flags.now fleet.musts.now fleet.offers.now fleet.available.now schedule.now }
+    ensures { result ≡ every (length fleet.entry.flags.now)
+        (λ i. order_test dearest (at fleet.entry.offers.now i) (at fleet.entry.available.now i) (at schedule.now i)) }
 {
-    let mut fine = true;
-    let mut i = 0;
-    while i < n {
-        let one = placed(dearest, offers[i], available[i], schedule[i]);
-        fine = fine & one;
-        i += 1;
-    }
-    fine
+    (0..fleet.flags.len()).all(|i| placed(
+        dearest,
+        fleet.offers[i],
+        fleet.available[i],
+        schedule[i],
+    ))
 }
 
-// Whether the schedule is one for this demand, and its price; each generator's part is added to its own energy.
-pub(crate) fn judge(bytes: &[u8], c: Counts, demand: u64, schedule: &[u32], own: &mut [u64]) -> Run
-    requires bytes_value { read_of bytes.now ≡ Reading.Accepted c }
+// The price of the schedule, if it is one for this demand; each generator's part is added to its own energy.
+pub(crate) fn judge(
+    bytes: &[u8],
+    c: Counts,
+    demand: u64,
+    schedule: &[u32],
+    own: &mut [u64],
+) -> Option<u32>
+    requires bytes_value { read_of bytes.now ≡ Ok c }
     requires plants_in_bounds { (c.plants ≤ length schedule.now) × Spacious own.old }
     ensures { Scheduled (columns_of bytes.now c) demand schedule.now
         own.old result own.new }
@@ -119,12 +120,13 @@ pub(crate) fn judge(bytes: &[u8], c: Counts, demand: u64, schedule: &[u32], own:
         &mut available,
     );
     tally::tally(&holders[..n], schedule, own);
-    let v = run_all(&flags, &musts, &offers, &available, n, schedule);
-    let order = in_order(&offers, &available, n, schedule, v.dearest);
-    Run {
-        good: v.good & (v.total == demand) & order,
-        total: v.total,
-        dearest: v.dearest,
-        price: v.price,
-    }
+    let fleet = Fleet {
+        flags: &flags[..n],
+        musts: &musts[..n],
+        offers: &offers[..n],
+        available: &available[..n],
+    };
+    let v = run_all(fleet, schedule);
+    let order = in_order(fleet, schedule, v.dearest);
+    (v.good & (v.total == demand) & order).then_some(v.price)
 }

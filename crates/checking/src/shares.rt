@@ -12,33 +12,24 @@ ghost use Rattle.checking.specs.Parts.{share_at, shares_test};
 use crate::numbers;
 use limits::Agent;
 
-// One column of n agents less another.
-pub(crate) fn differences(
-    xs: &[u32; Agent::MOST],
-    ys: &[u32; Agent::MOST],
-    n: usize,
-    out: &mut [u32],
-)
-    requires { (n ≤ most_agents) × (n ≤ length out.old) }
-    ensures { Filled 0 out.old out.new n (λ a. at xs.now a - at ys.now a) }
+// One column of agents less another.
+pub(crate) fn differences(xs: &[u32], ys: &[u32], out: &mut [u32])
+    requires { (length ys.now ≡ length xs.now) × (length xs.now ≤ length out.old) }
+    ensures { Filled 0 out.old out.new (length xs.now) (λ a. at xs.now a - at ys.now a) }
 {
-    let mut a = 0;
-    while a < n {
-        out[a] = sums::less(xs[a], ys[a]);
-        a += 1;
+    for a in 0..xs.len() {
+        out[a] = xs[a].saturating_sub(ys[a]);
     }
 }
 
-// The sum of a column's first n cells.
-pub(crate) fn total(values: &[u32; Agent::MOST], n: usize) -> u64
-    requires { (n ≤ most_agents) × (sum n (at values.now) ≤ room 1) }
-    ensures { result ≡ sum n (at values.now) }
+// The sum of a column.
+pub(crate) fn total(values: &[u32]) -> u64
+    requires { sum (length values.now) (at values.now) ≤ room 1 }
+    ensures { result ≡ sum (length values.now) (at values.now) }
 {
     let mut sum = 0;
-    let mut a = 0;
-    while a < n {
-        sum += sums::wide(values[a]);
-        a += 1;
+    for &value in values {
+        sum += u64::from(value);
     }
     sum
 }
@@ -54,51 +45,39 @@ fn share_good(kind: u32, losses: u32, used: u32, consumed: u64, share: u32) -> b
 }
 
 // Every share good, and all together the losses.
-pub(crate) fn good(
-    kinds: &[u32; Agent::MOST],
-    used: &[u32; Agent::MOST],
-    n: usize,
-    losses: u32,
-    consumed: u64,
-    figures: &[u32],
-) -> bool
-    requires { (n ≤ most_agents) × (cells_per_agent * n ≤ length figures.now) }
-    ensures { result ≡ shares_test kinds.now used.now figures.now n losses consumed }
+pub(crate) fn good(kinds: &[u32], used: &[u32], losses: u32, consumed: u64, figures: &[u32]) -> bool
+    requires { (length kinds.now ≤ most_agents) × (length used.now ≡ length kinds.now)
+        × (cells_per_agent * length kinds.now ≤ length figures.now) }
+    ensures { result ≡ shares_test kinds.now used.now figures.now (length kinds.now) losses consumed }
 {
     let mut fine = true;
     let mut sum = 0;
-    let mut a = 0;
-    while a < n {
+    for a in 0..kinds.len() {
         let share = figures[Agent::CELLS * a];
-        let one = share_good(kinds[a], losses, used[a], consumed, share);
-        fine = fine & one;
-        sum += sums::wide(share);
-        a += 1;
+        fine &= share_good(kinds[a], losses, used[a], consumed, share);
+        sum += u64::from(share);
     }
-    fine & (sum == sums::wide(losses))
+    fine & (sum == u64::from(losses))
 }
 
 // The commercial demands with their shares.
-pub(crate) fn demands(used: &[u32; Agent::MOST], figures: &[u32], n: usize, out: &mut [u32])
-    requires n_le_most_agents { (n ≤ most_agents) × (cells_per_agent * n ≤ length figures.now) × (n ≤ length out.old) }
-    requires by_index { (a : ℕ) → a < n → at used.now a + share_at figures.now a ≤ 4294967295 }
-    ensures { Filled 0 out.old out.new n (λ a. at used.now a + share_at figures.now a) }
+pub(crate) fn demands(used: &[u32], figures: &[u32], out: &mut [u32])
+    requires in_bounds { (length used.now ≤ most_agents) × (cells_per_agent * length used.now ≤ length figures.now)
+        × (length used.now ≤ length out.old) }
+    requires by_index { (a : ℕ) → a < length used.now → at used.now a + share_at figures.now a ≤ 4294967295 }
+    ensures { Filled 0 out.old out.new (length used.now) (λ a. at used.now a + share_at figures.now a) }
 {
-    let mut a = 0;
-    while a < n {
+    for a in 0..used.len() {
         out[a] = used[a] + figures[Agent::CELLS * a];
-        a += 1;
     }
 }
 
 // Two columns added, 64 bits wide.
-pub(crate) fn together(xs: &[u32; Agent::MOST], ys: &[u32; Agent::MOST], n: usize, out: &mut [u64])
-    requires { (n ≤ most_agents) × (n ≤ length out.old) }
-    ensures { Filled 0 out.old out.new n (λ a. at xs.now a + at ys.now a) }
+pub(crate) fn together(xs: &[u32], ys: &[u32], out: &mut [u64])
+    requires { (length ys.now ≡ length xs.now) × (length xs.now ≤ length out.old) }
+    ensures { Filled 0 out.old out.new (length xs.now) (λ a. at xs.now a + at ys.now a) }
 {
-    let mut a = 0;
-    while a < n {
-        out[a] = numbers::plus(xs[a], ys[a]);
-        a += 1;
+    for a in 0..xs.len() {
+        out[a] = u64::from(xs[a]) + u64::from(ys[a]);
     }
 }

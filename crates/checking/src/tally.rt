@@ -6,11 +6,7 @@ pub(crate) fn tally(keys: &[u32], values: &[u32], out: &mut [u64])
     requires { CountableWide keys.now values.now out.old }
     ensures { Totalled keys.now values.now out.old out.new }
 {
-    let n = keys.len();
-    let mut j = 0;
-    while j < n {
-        let a = keys[j] as usize;
-        out[a] = out[a] + sums::wide(values[j]);
-        j += 1;
+    for (j, &key) in keys.iter().enumerate() {
+        out[key as usize] += u64::from(values[j]);
     }
 }

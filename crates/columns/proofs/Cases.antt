@@ -1,4 +1,5 @@
 -- Document 01, 'One hour in full': its 272 bytes are accepted, and their columns are the hour of the table of cases. Assumes nothing.
+use Rattle.std.specs.Prelude.{Ok}
 use Prim.Native.Nat.{ℕ, ◌+◌, ◌*◌}
 use mathlib.Core.List.{List, [], ◌∷◌}
 use mathlib.Core.Path.{◌≡◌, refl}
@@ -10,7 +11,6 @@ use Rattle.octets.specs.declared.Words.{Words}
 use Rattle.sheet.specs.Reading.{counts_of, distances_good, layout_good, kind_at, agent_verdict}
 use Rattle.sheet.specs.Reading.{boundary_verdict, plant_verdict, contract_verdict, read_verdict, read_of}
 use Rattle.sheet.specs.declared.Counts.{Counts}
-use Rattle.sheet.specs.declared.Reading.{Reading}
 use Rattle.hour.proofs.Cases.{whole_hour}
 use Rattle.columns.specs.Columns.{columns_of}
 
@@ -40,7 +40,7 @@ hour_bytes = bytes_of (λ r. get_or rows r (words_of 0 0 0 0)) 17
 abbrev pub hour_counts : Counts
 hour_counts = record { agents = 4; boundaries = 4; plants = 3; contracts = 4 }
 
-pub hour_read : (length hour_bytes ≡ 272) × (read_of hour_bytes ≡ Reading.Accepted hour_counts)
+pub hour_read : (length hour_bytes ≡ 272) × (read_of hour_bytes ≡ Ok hour_counts)
     × (columns_of hour_bytes hour_counts ≡ whole_hour)
 unfolding hour_bytes bytes_of byte_of word list_to u32_at words_at counts_of distances_good layout_good kind_at agent_verdict boundary_verdict
     plant_verdict contract_verdict read_verdict read_of first_bad columns_of

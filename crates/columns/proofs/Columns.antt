@@ -1,4 +1,5 @@
 -- The columns hold what the rows say, and those of an accepted sheet are sound. Assumes nothing.
+use Rattle.std.specs.Prelude.{Ok}
 use Prim.Native.Nat.{ℕ, ◌<◌}
 use native.Mathlib.Omega.{arith}
 use mathlib.Core.List.{List}
@@ -10,7 +11,6 @@ use Rattle.rows.proofs.ByKind.{holder_carries_none, holder_inside, seller_carrie
 use Rattle.sheet.specs.Reading.{kind_at, read_of}
 use Rattle.sheet.specs.Asking.{agent_at, boundary_at, plant_at, contract_at}
 use Rattle.sheet.specs.declared.Counts.{Counts}
-use Rattle.sheet.specs.declared.Reading.{Reading}
 use Rattle.sheet.proofs.Accepted.{kind_of_lem, accepted_counts, accepted_few, accepted_boundary, accepted_plant, accepted_contract}
 use Rattle.hour.specs.Sheet.{agents, boundaries, plants, contracts, retails, outside}
 use Rattle.hour.specs.Sound.{Sound, BoundarySound, PlantSound, ContractSound}
@@ -112,7 +112,7 @@ module _ (s : List ℕ) (c : Counts) where
     outside_is = ap is_outside kind_is
 
   -- ---- the columns of an accepted sheet are sound
-  module _ (e : read_of s ≡ Reading.Accepted c) where
+  module _ (e : read_of s ≡ Ok c) where
     boundary_sound : (j : ℕ) → j < boundaries (columns_of s c) → BoundarySound (columns_of s c) j
     boundary_sound j m =
         let l : j < c.boundaries = omega (arith, boundaries_long) in

@@ -1,4 +1,5 @@
 -- Which numbers each stage of the settlement refuses with, so that the number tells the stage. Assumes nothing.
+use Rattle.std.specs.Prelude.{Ok, Err}
 use Prim.Native.Nat.{ℕ, zero, suc, ◌+◌, ◌*◌, ◌≤◌, ◌<◌}
 use native.Mathlib.Omega.{arith}
 use mathlib.Core.Bool.{Bool, true, false, ◌&&◌, ◌||◌}
@@ -11,7 +12,7 @@ use Rattle.sums.specs.Sums.{sum}
 use Rattle.sums.specs.Lists.{at}
 use Rattle.refusals.specs.Refusals.{bad_length, bad_layout, bad_agent, bad_boundary, bad_plant, bad_contract, bad_exports, bad_gain, unshared}
 use Rattle.refusals.specs.Refusals.{uncovered, overrun, no_room, refused, refused_unless, or_else, first_of, first_bad, number_of}
-use Rattle.refusals.specs.declared.Verdict.{Verdict}
+use Rattle.refusals.specs.Refusals.{Verdict}
 use Rattle.octets.specs.Bytes.{words_at}
 use Rattle.rows.specs.Rows.{agent_blank, boundary_blank, agent_good, boundary_good, plant_good, contract_good}
 use Rattle.sheet.specs.Reading.{boundary_start, length_good, counts_of, layout_good, kind_at, agent_verdict}
@@ -25,8 +26,8 @@ use Rattle.hour.specs.Answer.{Lent, first_over, balance_verdict, cover_verdict, 
 
 -- fine, or refused with a number from lo to hi
 abbrev pub Between : (lo hi : ℕ) → Verdict → Type 0
-Between lo hi Verdict.Fine = Unit {0}
-Between lo hi (Verdict.Refused r) = (lo ≤ r.number) × (r.number ≤ hi)
+Between lo hi (Ok _) = Unit {0}
+Between lo hi (Err r) = (lo ≤ r.number) × (r.number ≤ hi)
 
 abbrev AllBetween : (lo hi : ℕ) → List Verdict → Type 0
 AllBetween lo hi [] = Unit {0}
@@ -38,8 +39,8 @@ module _ (lo hi : ℕ) where
   unless_between false n p h k = (h, k)
 
   or_between : (v w : Verdict) → Between lo hi v → Between lo hi w → Between lo hi (or_else v w)
-  or_between Verdict.Fine w h k = k
-  or_between (Verdict.Refused r) w h k = h
+  or_between (Ok _) w h k = k
+  or_between (Err r) w h k = h
 
   first_between : (vs : List Verdict) → AllBetween lo hi vs → Between lo hi (first_of vs)
   first_between [] h = tt
@@ -151,49 +152,49 @@ room_between s l =
 
 -- ---- the number tells the stage: reading, balance, plants and room, in this order
 abbrev pub in_order : (reads balance cover room : Verdict) → Verdict
-in_order r b c m = or_else r (or_else b (or_else c (or_else m Verdict.Fine)))
+in_order r b c m = or_else r (or_else b (or_else c (or_else m (Ok tt))))
 
 -- 0, or one of 1 to 11, or 13
 pub listed : (r b c m : Verdict)
     → Between 1 6 r
     → Between 7 9 b
-    → (c ≡ Verdict.Fine) ⊎ ((c ≡ refused uncovered 0) ⊎ (c ≡ refused overrun 0))
+    → (c ≡ Ok tt) ⊎ ((c ≡ refused uncovered 0) ⊎ (c ≡ refused overrun 0))
     → Between 11 11 m
     → let n = number_of (in_order r b c m) in (n ≡ 0) ⊎ (((1 ≤ n) × (n ≤ 11)) ⊎ (n ≡ 13))
-listed (Verdict.Refused q) b c m hr hb hc hm = inr (inl (omega arith, omega arith))
-listed Verdict.Fine (Verdict.Refused q) c m hr hb hc hm = inr (inl (omega arith, omega arith))
-listed Verdict.Fine Verdict.Fine c m hr hb (inr (inl e)) hm = rw e (inr (inl (omega arith, omega arith)))
-listed Verdict.Fine Verdict.Fine c m hr hb (inr (inr e)) hm = rw e (inr (inr refl))
-listed Verdict.Fine Verdict.Fine c Verdict.Fine hr hb (inl e) hm = rw e (inl refl)
-listed Verdict.Fine Verdict.Fine c (Verdict.Refused q) hr hb (inl e) hm = rw e (inr (inl (omega arith, omega arith)))
+listed (Err q) b c m hr hb hc hm = inr (inl (omega arith, omega arith))
+listed (Ok _) (Err q) c m hr hb hc hm = inr (inl (omega arith, omega arith))
+listed (Ok _) (Ok _) c m hr hb (inr (inl e)) hm = rw e (inr (inl (omega arith, omega arith)))
+listed (Ok _) (Ok _) c m hr hb (inr (inr e)) hm = rw e (inr (inr refl))
+listed (Ok _) (Ok _) c (Ok _) hr hb (inl e) hm = rw e (inl refl)
+listed (Ok _) (Ok _) c (Err q) hr hb (inl e) hm = rw e (inr (inl (omega arith, omega arith)))
 
 -- 0 or above 9: reading and balance were passed
 pub early_passed : (r b c m : Verdict)
     → Between 1 6 r
     → Between 7 9 b
     → (number_of (in_order r b c m) ≡ 0) ⊎ (9 < number_of (in_order r b c m))
-    → (r ≡ Verdict.Fine) × (b ≡ Verdict.Fine)
-early_passed Verdict.Fine Verdict.Fine c m hr hb h = (refl, refl)
-early_passed (Verdict.Refused q) b c m hr hb (inl e) = absurd (omega arith)
-early_passed (Verdict.Refused q) b c m hr hb (inr e) = absurd (omega arith)
-early_passed Verdict.Fine (Verdict.Refused q) c m hr hb (inl e) = absurd (omega arith)
-early_passed Verdict.Fine (Verdict.Refused q) c m hr hb (inr e) = absurd (omega arith)
+    → (r ≡ Ok tt) × (b ≡ Ok tt)
+early_passed (Ok _) (Ok _) c m hr hb h = (refl, refl)
+early_passed (Err q) b c m hr hb (inl e) = absurd (omega arith)
+early_passed (Err q) b c m hr hb (inr e) = absurd (omega arith)
+early_passed (Ok _) (Err q) c m hr hb (inl e) = absurd (omega arith)
+early_passed (Ok _) (Err q) c m hr hb (inr e) = absurd (omega arith)
 
 -- and the other way
 pub late_number : (c m : Verdict) → Between 10 13 c → Between 11 11 m
-    → (number_of (in_order Verdict.Fine Verdict.Fine c m) ≡ 0) ⊎ (9 < number_of (in_order Verdict.Fine Verdict.Fine c m))
-late_number Verdict.Fine Verdict.Fine hc hm = inl refl
-late_number Verdict.Fine (Verdict.Refused q) hc hm = inr (omega arith)
-late_number (Verdict.Refused q) m hc hm = inr (omega arith)
+    → (number_of (in_order (Ok tt) (Ok tt) c m) ≡ 0) ⊎ (9 < number_of (in_order (Ok tt) (Ok tt) c m))
+late_number (Ok _) (Ok _) hc hm = inl refl
+late_number (Ok _) (Err q) hc hm = inr (omega arith)
+late_number (Err q) m hc hm = inr (omega arith)
 
 -- with the plants passed the number is neither 10 nor 13
 pub not_uncovered : (m : Verdict)
     → Between 11 11 m
     → (n : ℕ)
-    → number_of (in_order Verdict.Fine Verdict.Fine Verdict.Fine m) ≡ n
+    → number_of (in_order (Ok tt) (Ok tt) (Ok tt) m) ≡ n
     → (n ≡ 10) ⊎ (n ≡ 13)
     → ⊥
-not_uncovered Verdict.Fine hm n e (inl h) = omega arith
-not_uncovered Verdict.Fine hm n e (inr h) = omega arith
-not_uncovered (Verdict.Refused q) hm n e (inl h) = omega arith
-not_uncovered (Verdict.Refused q) hm n e (inr h) = omega arith
+not_uncovered (Ok _) hm n e (inl h) = omega arith
+not_uncovered (Ok _) hm n e (inr h) = omega arith
+not_uncovered (Err q) hm n e (inl h) = omega arith
+not_uncovered (Err q) hm n e (inr h) = omega arith

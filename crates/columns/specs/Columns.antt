@@ -2,7 +2,7 @@
 use Rattle.std.specs.Prelude.{ℕ, List, [], ◌∷◌}
 use Rattle.sums.specs.Lists.{list_to}
 use Rattle.refusals.specs.Refusals.{first_of}
-use Rattle.refusals.specs.declared.Verdict.{Verdict}
+use Rattle.refusals.specs.Refusals.{Verdict}
 use Rattle.sheet.specs.Asking.{agent_at, boundary_at, plant_at, contract_at}
 use Rattle.sheet.specs.Reading.{counts_of, read_verdict}
 use Rattle.sheet.specs.declared.Counts.{Counts}

@@ -1,48 +1,34 @@
 // `desk day FILE..`: 24 sheets, an hour a file, and their pages one behind another.
-ghost use Rattle.std.specs.Prelude.{◌+◌, ◌*◌, ◌≤◌, ◌<◌, length};
-ghost use Rattle.sheet.specs.Reading.{longest};
+ghost use Rattle.std.specs.Prelude.{◌+◌, ◌≤◌};
 ghost use Rattle.day.specs.Day.{hours};
 
-use channels::{fail, files, say};
+use channels::{fail, files, front, say};
 use day::HOURS;
-use input::Input;
-use printing::Printed;
 use std::env::Env;
 use std::io;
 use std::io::Error;
 use std::rt::Files;
+
+// An hour's file each.
+type Sheets = [[u8; files::ROOM]; HOURS];
 
 // Reads all files, the first of which word `first` names, each to a place of its own. Where one cannot be read, which is told by its
 // name, there is no day.
 fn read_files<R: Env + Files + Eprint>(
     rt: &R,
     first: usize,
-    sheets: &mut [u8],
+    sheets: &mut Sheets,
     sizes: &mut [usize; HOURS],
 ) -> bool
-    requires { (first + hours ≤ 18446744073709551615) × ((longest + 16) * hours ≤ length sheets.old) }
+    requires { first + hours ≤ 18446744073709551615 }
 {
     for h in 0..HOURS {
-        let a = files::ROOM * h;
-        let e = a + files::ROOM;
-        let got = files::read_named(rt, first + h, &mut sheets[a..e]);
-        let Input::Bytes(n) = got else {
+        let Ok(n) = files::read_named(rt, first + h, &mut sheets[h]) else {
             return false;
         };
         sizes[h] = n;
     }
     true
-}
-
-// The n bytes from a on, or none where they are not there.
-fn stretch(bytes: &[u8], a: usize, n: usize) -> &[u8] {
-    if a <= bytes.len() {
-        if n <= bytes.len() - a {
-            let e = a + n;
-            return &bytes[a..e];
-        }
-    }
-    &bytes[..0]
 }
 
 // The line above a page: the hour and its file, which word `from` names.
@@ -56,20 +42,16 @@ fn print_head<R: Env + Print>(rt: &R, h: usize, from: usize) -> io::Result<()> {
 
 // A settled hour's page begins with `hour`, a refused one's with `refused`.
 fn is_settled(page: &[u8]) -> bool {
-    match page {
-        [first, ..] => *first == b'h',
-        [] => false,
-    }
+    page.starts_with(b"h")
 }
 
 // The page of hour h under its line. Answers whether the hour was settled.
 fn print_hour<R: Env + Print>(rt: &R, h: usize, from: usize, sheet: &[u8]) -> io::Result<bool> {
     let mut text = [0u8; page::MOST];
-    let printed = page::page(sheet, &mut text);
-    let Printed::Done(n) = printed else {
+    let Ok(n) = page::page(sheet, &mut text) else {
         return Err(Error::other("a page is longer than any page can be"));
     };
-    let page = stretch(&text, 0, n);
+    let page = &text[..n];
     print_head(rt, h, from)?;
     say(rt, page)?;
     Ok(is_settled(page))
@@ -79,14 +61,14 @@ fn print_hour<R: Env + Print>(rt: &R, h: usize, from: usize, sheet: &[u8]) -> io
 fn print_hours<R: Env + Print>(
     rt: &R,
     first: usize,
-    sheets: &[u8],
+    sheets: &Sheets,
     sizes: &[usize; HOURS],
     settled: &mut [bool; HOURS],
 ) -> io::Result<()>
     requires { first + hours ≤ 18446744073709551615 }
 {
     for h in 0..HOURS {
-        let sheet = stretch(sheets, files::ROOM * h, sizes[h]);
+        let sheet = front(&sheets[h], sizes[h]);
         settled[h] = print_hour(rt, h, first + h, sheet)?;
     }
     Ok(())
@@ -96,8 +78,8 @@ fn print_hours<R: Env + Print>(
 fn print_last<P: Print>(rt: &P, settled: &[bool; HOURS]) -> io::Result<()> {
     let count = settled.iter().filter(|is| **is).count();
     print!(rt; "day {count} settled, refused:")?;
-    for h in 0..HOURS {
-        if !settled[h] {
+    for (h, settled) in settled.iter().enumerate() {
+        if !*settled {
             print!(rt; " {h}")?;
         }
     }
@@ -107,7 +89,7 @@ fn print_last<P: Print>(rt: &P, settled: &[bool; HOURS]) -> io::Result<()> {
 fn print_day<R: Env + Print>(
     rt: &R,
     first: usize,
-    sheets: &[u8],
+    sheets: &Sheets,
     sizes: &[usize; HOURS],
 ) -> io::Result<()>
     requires { first + hours ≤ 18446744073709551615 }
@@ -120,7 +102,7 @@ fn print_day<R: Env + Print>(
 fn run_files<R: Env + Files + Print + Eprint>(rt: &R, first: usize)
     requires { first + hours ≤ 18446744073709551615 }
 {
-    let mut sheets = [0u8; files::ROOM * HOURS];
+    let mut sheets = [[0u8; files::ROOM]; HOURS];
     let mut sizes = [0usize; HOURS];
     if !read_files(rt, first, &mut sheets, &mut sizes) {
         return;

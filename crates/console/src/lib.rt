@@ -8,8 +8,6 @@ mod why;
 ghost use Rattle.std.specs.Prelude.{◌≤◌};
 
 use channels::{fail, files, say};
-use input::Input;
-use printing::Printed;
 use std::env::Env;
 use std::io;
 use std::rt::Files;
@@ -17,10 +15,9 @@ use std::rt::Files;
 // Prints the page of a sheet, or says on standard error that it cannot be written.
 fn print_page<R: Print + Eprint>(rt: &R, sheet: &[u8]) {
     let mut text = [0u8; page::MOST];
-    let printed = page::page(sheet, &mut text);
-    match printed {
-        Printed::Refused(_) => hint(rt, "desk: the page is longer than any page can be\n"),
-        Printed::Done(n) => {
+    match page::page(sheet, &mut text) {
+        Err(_) => hint(rt, "desk: the page is longer than any page can be\n"),
+        Ok(n) => {
             if let Err(why) = say(rt, &text[..n]) {
                 fail(rt, "desk: the page cannot be written", why);
             }
@@ -32,10 +29,9 @@ fn print_page<R: Print + Eprint>(rt: &R, sheet: &[u8]) {
 fn settle_input<R: io::Input + Print + Eprint>(rt: &R) {
     let mut sheet = [0u8; files::ROOM];
     let mut from = rt.reader();
-    let got = input::read_all(&mut from, &mut sheet);
-    match got {
-        Input::Failed(why) => fail(rt, "desk: the sheet cannot be read", why),
-        Input::Bytes(n) => print_page(rt, &sheet[..n]),
+    match input::read_all(&mut from, &mut sheet) {
+        Ok(n) => print_page(rt, &sheet[..n]),
+        Err(why) => fail(rt, "desk: the sheet cannot be read", why),
     }
 }
 
@@ -94,14 +90,13 @@ fn run_mend<R: Env + Files + Print + Eprint>(rt: &R, next: usize, end: usize)
 fn run_word<R: Env + Files + Print + Eprint>(rt: &R, word: &[u8], next: usize, end: usize)
     requires { next ≤ end }
 {
-    if words::is_same(word, b"day") {
-        hours::run(rt, next, end);
-    } else if words::is_same(word, b"mend") {
-        run_mend(rt, next, end);
-    } else if words::is_same(word, b"why") {
-        why::run(rt, next, end);
-    } else if !papers::run(rt, word, next, end) {
-        say_usage(rt);
+    match word {
+        b"day" => hours::run(rt, next, end),
+        b"mend" => run_mend(rt, next, end),
+        b"why" => why::run(rt, next, end),
+        _ => if !papers::run(rt, word, next, end) {
+            say_usage(rt);
+        },
     }
 }
 

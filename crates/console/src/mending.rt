@@ -1,11 +1,8 @@
 // `desk mend SHEET OUT`: a mended copy of a sheet in a new file, and a line for every byte changed.
 use channels::{fail, files, say_refused};
-use input::Input;
 use limits::{Agent, Boundary};
-use mend::Mending;
 use refusals::Refusal;
 use sheet::Counts;
-use sheet::counting::Counting;
 use std::env::Env;
 use std::io;
 use std::rt::Files;
@@ -72,8 +69,7 @@ fn say_changes<P: Print>(
 
 // A line a change, and how many there are.
 fn say_mended<P: Print>(rt: &P, sheet: &[u8], report: &[u32; REPORT], n: usize) -> io::Result<()> {
-    let rows = sheet::counting::count_rows(sheet);
-    let Counting::Rows(c) = rows else {
+    let Ok(c) = sheet::counting::count_rows(sheet) else {
         return Ok(());
     };
     say_changes(rt, c, sheet.len(), report, n)?;
@@ -96,10 +92,9 @@ fn tell_mended<R: Print + Eprint>(rt: &R, sheet: &[u8], report: &[u32; REPORT], 
 fn mend_sheet<R: Env + Files + Print + Eprint>(rt: &R, sheet: &[u8], out: usize) {
     let mut copy = [0u8; files::ROOM];
     let mut report = [0u32; REPORT];
-    let answer = mend::mend(sheet, &mut copy, &mut report);
-    match answer {
-        Mending::Refused(why) => tell_refused(rt, why),
-        Mending::Done(n) => {
+    match mend::mend(sheet, &mut copy, &mut report) {
+        Err(why) => tell_refused(rt, why),
+        Ok(n) => {
             if sheet.len() <= copy.len() {
                 if files::write_named(rt, out, &copy[..sheet.len()]) {
                     tell_mended(rt, sheet, &report, n);
@@ -112,8 +107,7 @@ fn mend_sheet<R: Env + Files + Print + Eprint>(rt: &R, sheet: &[u8], out: usize)
 // The sheet is the file that word `from` names, the copy the one that word `out` names.
 pub(crate) fn run<R: Env + Files + Print + Eprint>(rt: &R, from: usize, out: usize) {
     let mut sheet = [0u8; files::ROOM];
-    let got = files::read_named(rt, from, &mut sheet);
-    if let Input::Bytes(n) = got {
+    if let Ok(n) = files::read_named(rt, from, &mut sheet) {
         mend_sheet(rt, &sheet[..n], out);
     }
 }

@@ -2,14 +2,10 @@
 ghost use Rattle.std.specs.Prelude.{◌≤◌};
 
 use channels::{fail, files, say_refused};
-use input::Input;
-use reasons::{
-    Ahead, ContractCase, ContractReason, ContractWhy, Group, PlantCase, PlantReason, PlantWhy,
-};
+use reasons::{Ahead, ContractCase, ContractReason, Group, PlantCase, PlantReason};
 use std::env::Env;
 use std::io;
 use std::rt::Files;
-use words::Number;
 
 fn plant_reason(reason: PlantReason) -> &'static str {
     match reason {
@@ -80,34 +76,39 @@ fn say_contract<P: Print>(rt: &P, j: u32, k: ContractCase) -> io::Result<()> {
 
 fn answer_plant<P: Print>(rt: &P, sheet: &[u8], i: u32) -> io::Result<()> {
     match reasons::why_plant(sheet, i) {
-        PlantWhy::Because(k) => say_plant(rt, i, k),
-        PlantWhy::Refused(r) => say_refused(rt, r),
+        Ok(k) => say_plant(rt, i, k),
+        Err(r) => say_refused(rt, r),
     }
 }
 
 fn answer_contract<P: Print>(rt: &P, sheet: &[u8], j: u32) -> io::Result<()> {
     match reasons::why_contract(sheet, j) {
-        ContractWhy::Because(k) => say_contract(rt, j, k),
-        ContractWhy::Refused(r) => say_refused(rt, r),
+        Ok(k) => say_contract(rt, j, k),
+        Err(r) => say_refused(rt, r),
     }
 }
 
-fn answer_of<P: Print>(rt: &P, sheet: &[u8], plant: bool, i: u32) -> io::Result<()> {
-    if plant {
-        answer_plant(rt, sheet, i)
-    } else {
-        answer_contract(rt, sheet, i)
+// What is asked about: a plant or a contract, by its number.
+#[derive(Clone, Copy)]
+enum Asked {
+    Plant(u32),
+    Contract(u32),
+}
+
+fn answer_of<P: Print>(rt: &P, sheet: &[u8], asked: Asked) -> io::Result<()> {
+    match asked {
+        Asked::Plant(i) => answer_plant(rt, sheet, i),
+        Asked::Contract(j) => answer_contract(rt, sheet, j),
     }
 }
 
 // Of the sheet that word `from` names.
-fn answer<R: Env + Files + Print + Eprint>(rt: &R, from: usize, plant: bool, i: u32) {
+fn answer<R: Env + Files + Print + Eprint>(rt: &R, from: usize, asked: Asked) {
     let mut sheet = [0u8; files::ROOM];
-    let got = files::read_named(rt, from, &mut sheet);
-    let Input::Bytes(n) = got else {
+    let Ok(n) = files::read_named(rt, from, &mut sheet) else {
         return;
     };
-    if let Err(why) = answer_of(rt, &sheet[..n], plant, i) {
+    if let Err(why) = answer_of(rt, &sheet[..n], asked) {
         fail(rt, "desk: the answer cannot be written", why);
     }
 }
@@ -124,17 +125,10 @@ fn ask<R: Env + Files + Print + Eprint>(rt: &R, from: usize, of: usize, which: u
     let n = words::word(rt, of, &mut kind);
     let mut digits = [0u8; 16];
     let m = words::word(rt, which, &mut digits);
-    let plant = words::is_same(&kind[..n], b"plant");
-    let contract = words::is_same(&kind[..n], b"contract");
-    let number = words::number_of(&digits[..m]);
-    let Number::Is(i) = number else {
-        say_usage(rt);
-        return;
-    };
-    if plant | contract {
-        answer(rt, from, plant, i);
-    } else {
-        say_usage(rt);
+    match (&kind[..n], words::number_of(&digits[..m])) {
+        (b"plant", Some(i)) => answer(rt, from, Asked::Plant(i)),
+        (b"contract", Some(j)) => answer(rt, from, Asked::Contract(j)),
+        _ => say_usage(rt),
     }
 }
 

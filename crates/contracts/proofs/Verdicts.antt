@@ -1,29 +1,29 @@
 -- When the rows can be assigned: what each test tells, and that good rows are never turned away. Assumes nothing.
+use Rattle.std.specs.Prelude.{Ok, Err}
 use Prim.Native.Nat.{ℕ, ◌+◌, ◌-◌, ◌%◌, ◌≤◌, ◌<◌}
 use native.Mathlib.Omega.{arith}
-use mathlib.Core.Bool.{Bool, true, false, ◌&&◌}
+use mathlib.Core.Bool.{Bool, true, ◌&&◌}
 use mathlib.Core.List.{List, [], ◌∷◌}
 use mathlib.Core.Path.{◌≡◌, ap, ◌∙◌, sym}
 use lib.Dec.{ltb, leb, eqb}
-use lib.ListN.{length, take}
+use lib.ListN.{length}
 use borrow.Author.Tests.{ltb-true, leb-true, eqb-true, lt-ltb, le-leb, eq-eqb}
-use Rattle.sums.specs.Lists.{at, Filled}
-use Rattle.sums.proofs.Tests.{all_true, clash}
-use Rattle.sums.proofs.Fill.{filled_none, filled_count, filled_unique}
-use Rattle.refusals.proofs.Fine.{not_fine, else_fine, fine_left, fine_parts, parts_fine, fine_test, each_fine, all_fine}
+use Rattle.sums.specs.Lists.{Filled}
+use Rattle.sums.proofs.Tests.{all_true}
+use Rattle.sums.proofs.Fill.{filled_count, filled_unique}
+use Rattle.refusals.proofs.Fine.{not_fine, fine_parts, parts_fine, fine_test, each_fine, all_fine}
 use Rattle.refusals.proofs.FirstBad.{good_row, bad_row}
-use Rattle.refusals.specs.Refusals.{refusal, refused, refused_unless, first_bad, or_else, cells, bad_layout, bad_contract, no_room}
+use Rattle.refusals.specs.Refusals.{refused_unless, first_bad, cells, bad_layout, bad_contract, no_room}
+use Rattle.refusals.specs.Refusals.{Verdict}
 use Rattle.refusals.specs.declared.Refusal.{Refusal}
-use Rattle.refusals.specs.declared.Verdict.{Verdict}
 use Rattle.limits.specs.Limits.{most_agents, most_contracts, most_quantity, most_price}
 use Rattle.limits.specs.declared.Contract.{Contract}
-use Rattle.order.specs.Passes.{NextPlaces}
 use Rattle.deals.specs.Deals.{fixed, demanded}
 use Rattle.deals.specs.Hour.{hour_amount}
 use Rattle.contracts.specs.Assign.{count_in, deal_in, deals_in, section_fits, deal_good, deal_verdict}
 use Rattle.contracts.specs.Assign.{layout_verdict, deals_verdict, amounts_verdict, assign_verdict, Assigned}
 use Rattle.contracts.specs.Keys.{row_count, Ready}
-use Rattle.contracts.specs.Sides.{SidesTotalled, Cuts, tag_in, Planned}
+use Rattle.contracts.specs.Sides.{SidesTotalled, Surveyed, Planned}
 use Rattle.contracts.proofs.Section.{count_is, buyer_in, kind_in_lem, price_in_lem, quantity_in}
 
 -- ---- what the layout's test tells
@@ -85,7 +85,7 @@ module _ (a : ℕ) (k : Contract) where
 
 module _ (s ds out : List ℕ) where
   -- a call that is not refused has rows that nothing is wrong with, and room for them
-  pub fine_ready : assign_verdict s ds out ≡ Verdict.Fine → Ready (deals_in s) ds × (count_in s ≤ length out)
+  pub fine_ready : assign_verdict s ds out ≡ Ok tt → Ready (deals_in s) ds × (count_in s ≤ length out)
   fine_ready e =
       let all = fine_parts (layout_verdict s ds ∷ deals_verdict s (length ds) ∷ amounts_verdict s out ∷ []) e in
       let a : Laid s ds = laid s ds (fine_test (section_fits s ds) bad_layout 0 all.0) in
@@ -110,7 +110,7 @@ module _ (s ds out : List ℕ) where
   pub assign_fine : Laid s ds
       → ((i : ℕ) → i < count_in s → Row (length ds) (deal_in s i))
       → count_in s ≤ length out
-      → assign_verdict s ds out ≡ Verdict.Fine
+      → assign_verdict s ds out ≡ Ok tt
   assign_fine a h l =
       parts_fine (layout_verdict s ds ∷ deals_verdict s (length ds) ∷ amounts_verdict s out ∷ []) (
         ap (λ (t : Bool). refused_unless t bad_layout 0) (layout_holds s ds a),
@@ -125,99 +125,41 @@ module _ (s ds out : List ℕ) where
 module _ (s : List ℕ) (agents i : ℕ) (l : i < count_in s)
     (here : deals_verdict s agents ≡ first_bad (deal_verdict s agents) i (count_in s - i)) (good : Bool)
     (is : good ≡ deal_good agents (deal_in s i)) where
-  row_is : (t : Bool) → good ≡ t → deal_verdict s agents i ≡ refused_unless t bad_contract i
-  row_is t e = ap (λ (u : Bool). refused_unless u bad_contract i) (sym is ∙ e)
+  verdict_is : deal_verdict s agents i ≡ refused_unless good bad_contract i
+  verdict_is = ap (λ (u : Bool). refused_unless u bad_contract i) (sym is)
 
-  pub row_stop : (v : Verdict)
-      → v ≡ refused bad_contract i
-      → good ≡ false
+  pub row_stop : (v : Verdict) (r : Refusal)
+      → v ≡ Err r
+      → refused_unless good bad_contract i ≡ Err r
       → (totals counts : List ℕ)
       → SidesTotalled (deals_verdict s agents) s v totals counts
-  row_stop v e f totals counts =
+  row_stop v r e f totals counts =
       record {
-        answer =
-            e ∙ sym (here ∙ bad_row (deal_verdict s agents) (count_in s) i (refusal bad_contract i) l (row_is false f));
-        held = λ z. not_fine (refusal bad_contract i) (sym e ∙ z);
-        counted = λ z. not_fine (refusal bad_contract i) (sym e ∙ z);
+        answer = e ∙ sym (here ∙ bad_row (deal_verdict s agents) (count_in s) i r l (verdict_is ∙ f));
+        held = λ z. not_fine r (sym e ∙ z);
+        counted = λ z. not_fine r (sym e ∙ z);
       }
 
-  pub row_pass : good ≡ true → deals_verdict s agents ≡ first_bad (deal_verdict s agents) (i + 1) (count_in s - (i + 1))
-  row_pass f = here ∙ good_row (deal_verdict s agents) (count_in s) i l (row_is true f)
+  pub row_pass : refused_unless good bad_contract i ≡ Ok tt
+      → deals_verdict s agents ≡ first_bad (deal_verdict s agents) (i + 1) (count_in s - (i + 1))
+  row_pass f = here ∙ good_row (deal_verdict s agents) (count_in s) i l (verdict_is ∙ f)
 
--- ---- the verdict as it is come to
-module _ (s ds out : List ℕ) where
-  pub judge_layout : (v : Verdict) (totals counts : List ℕ)
-      → v ≡ refused bad_layout 0
-      → section_fits s ds ≡ false
-      → SidesTotalled (assign_verdict s ds out) s v totals counts
-  judge_layout v totals counts e f =
-      record {
-        answer =
-            e ∙ sym (ap (λ (t : Bool). or_else (refused_unless t bad_layout 0)
-            (or_else (deals_verdict s (length ds)) (or_else (amounts_verdict s out) Verdict.Fine))) f);
-        held = λ z. not_fine (refusal bad_layout 0) (sym e ∙ z);
-        counted = λ z. not_fine (refusal bad_layout 0) (sym e ∙ z);
-      }
-
-  -- a bad row is told before a short list
-  pub judge_rest : (v w x : Verdict) (fits : Bool) (totals counts : List ℕ)
-      → section_fits s ds ≡ true
-      → SidesTotalled (deals_verdict s (length ds)) s v totals counts
-      → fits ≡ leb (count_in s) (length out) → w ≡ refused_unless fits no_room 0 → x ≡ or_else v w
-      → SidesTotalled (assign_verdict s ds out) s x totals counts
-  judge_rest v w x fits totals counts good k f g e =
-      record {
-        answer = rw (e, k.answer, g, f, good, else_fine);
-        held = λ z. k.held (fine_left v w (sym e ∙ z));
-        counted = λ z. k.counted (fine_left v w (sym e ∙ z));
-      }
-
--- ---- what a survey tells: a refusal, that no side is cut, or where the keys of the cut sides go
+-- ---- what a survey tells: a refusal, or what was found
 module _ (s ds out decided next : List ℕ) (long : length next ≡ most_agents) where
-  pub planned_not : (v : Verdict) (some : Bool) (r : Refusal)
-      → v ≡ assign_verdict s ds out
-      → v ≡ Verdict.Refused r
-      → Planned s ds out (record { verdict = v; some = some }) decided next
-  planned_not v some r e f =
+  pub planned : (some : Bool) → Surveyed s ds out some decided next → Planned s ds out (Ok some) decided next
+  planned some k =
       record {
-        answer = e;
-        cuts = λ z. not_fine r (sym f ∙ z);
-        none = λ z. not_fine r (sym f ∙ z);
-        places = λ z. not_fine r (sym f ∙ z);
+        refused = λ why f. absurd cc;
+        surveyed = λ t f. let e : some ≡ t = cc in rw e at k;
         long = long;
       }
 
-  module _ (v : Verdict) (some : Bool) (e : v ≡ assign_verdict s ds out) (c : Cuts s ds decided) where
-    pub planned_none : some ≡ false
-        → ((b : ℕ) → b < length ds → at decided (most_agents + b) ≡ 2)
-        → Planned s ds out (record { verdict = v; some = some }) decided next
-    planned_none f n =
-        record { answer = e; cuts = λ z. c; none = λ z y. n; places = λ z y. absurd (clash some y f); long = long }
-
-    pub planned_some : some ≡ true
-        → NextPlaces (tag_in s decided) (length ds) (count_in s) 0 (take (length ds) next)
-        → Planned s ds out (record { verdict = v; some = some }) decided next
-    planned_some f p =
-        record { answer = e; cuts = λ z. c; none = λ z y. absurd (clash some f y); places = λ z y. p; long = long }
-
 -- ---- a refusal writes no cell, and fine rows are all written
 module _ (s ds before : List ℕ) where
-  pub assigned_not : (v : Verdict) (r : Refusal)
-      → v ≡ assign_verdict s ds before
-      → v ≡ Verdict.Refused r
-      → Assigned s ds before v before
-  assigned_not v r e f =
-      record {
-        answer = e;
-        result =
-            filled_count 0 before before 0 (cells (assign_verdict s ds before) (count_in s)) (hour_amount (deals_in s) ds)
-            (ap (λ (w : Verdict). cells w (count_in s)) (sym f ∙ e)) (filled_none 0 before (hour_amount (deals_in s) ds));
-      }
-
   pub assigned_all : (after : List ℕ)
-      → Verdict.Fine ≡ assign_verdict s ds before
+      → Ok tt ≡ assign_verdict s ds before
       → Filled 0 before after (count_in s) (hour_amount (deals_in s) ds)
-      → Assigned s ds before Verdict.Fine after
+      → Assigned s ds before (Ok tt) after
   assigned_all after e f =
       record {
         answer = e;

@@ -3,7 +3,7 @@
 use Rattle.std.specs.Prelude.{ℕ, ◌/◌, ◌%◌, ◌≡◌, Bool, ◌&&◌, List, [], ◌∷◌, length, ltb, leb, eqb}
 use Rattle.sums.specs.Lists.{list_to, Filled}
 use Rattle.refusals.specs.Refusals.{bad_layout, bad_contract, no_room, refused_unless, first_of, first_bad, cells}
-use Rattle.refusals.specs.declared.Verdict.{Verdict}
+use Rattle.refusals.specs.Refusals.{Verdict}
 use Rattle.limits.specs.Limits.{most_agents, most_contracts, most_price, most_quantity}
 use Rattle.octets.specs.Bytes.{words_at}
 use Rattle.rows.specs.Rows.{contract_of}

@@ -1,12 +1,12 @@
 // One side of a buyer, by its keys in order: the retailer's tally, from what is left where the side begins.
-ghost use Rattle.std.specs.Prelude.{◌≡◌, ◌||◌, ◌+◌, ◌-◌, ◌≤◌, ◌<◌, ltb, length};
+ghost use Rattle.std.specs.Prelude.{◌≡◌, ◌||◌, ◌-◌, ◌≤◌, ◌<◌, ltb, length};
 ghost use Rattle.sums.specs.Sums.{pick};
 ghost use Rattle.sums.specs.Lists.{at, total, Filled};
 ghost use Rattle.limits.specs.Limits.{most_contracts};
 ghost use Rattle.share.specs.Share.{share_of};
 ghost use Rattle.contracts.specs.Keys.{is_fixed, key_row};
 ghost use Rattle.contracts.specs.Walk.{quantity_of, quantities_of, Scattered, Rowed, firm_amount};
-ghost use Rattle.contracts.specs.Walk.{Group, group_amount, Walked, RisingKeys};
+ghost use Rattle.contracts.specs.Walk.{group_amount, Walked, RisingKeys};
 
 use limits::Contract;
 
@@ -22,7 +22,7 @@ impl Tally {
         ensures { result.left ≡ self.left - q }
     {
         Tally {
-            left: sums::less(self.left, q),
+            left: self.left.saturating_sub(q),
         }
     }
 }
@@ -50,6 +50,7 @@ fn fixed(k: u32) -> bool
 // ---- kinds 1 and 2
 
 // Kind 1 in full, kind 2 in full where any of the demand is left.
+#[tactic(auto, unfolding(sums::specs::Sums::pick))]
 fn firm(in_full: bool, left: u32, q: u32) -> u32
     ensures { result ≡ pick (in_full || ltb 0 left) q }
 {
@@ -62,13 +63,10 @@ pub(crate) fn serve_firm(section: &[u8], keys: &[u32], left: u32, out: &mut [u32
         (firm_amount section.now keys.now left) out.old out.new }
 {
     let mut tally = Tally { left };
-    let mut p = 0;
-    while p < keys.len() {
-        let k = keys[p];
+    for &k in keys {
         let q = quantity_of(section, k);
         out[row_of(k)] = firm(fixed(k), tally.left, q);
         tally = tally.take(q);
-        p += 1;
     }
 }
 
@@ -79,11 +77,8 @@ fn in_full(section: &[u8], keys: &[u32], out: &mut [u32])
     ensures { Scattered keys.now (length keys.now)
         (λ u. quantity_of section.now (at keys.now u)) out.old out.new }
 {
-    let mut p = 0;
-    while p < keys.len() {
-        let k = keys[p];
+    for &k in keys {
         out[row_of(k)] = quantity_of(section, k);
-        p += 1;
     }
 }
 
@@ -91,10 +86,8 @@ fn nothing(keys: &[u32], out: &mut [u32])
     requires { Rowed keys.now (length keys.now) (length out.old) }
     ensures { Scattered keys.now (length keys.now) (λ _. 0) out.old out.new }
 {
-    let mut p = 0;
-    while p < keys.len() {
-        out[row_of(keys[p])] = 0;
-        p += 1;
+    for &k in keys {
+        out[row_of(k)] = 0;
     }
 }
 
@@ -104,10 +97,8 @@ fn gather(section: &[u8], keys: &[u32], out: &mut [u32])
     ensures { Filled 0 out.old out.new (length keys.now)
         (λ u. quantity_of section.now (at keys.now u)) }
 {
-    let mut p = 0;
-    while p < keys.len() {
-        out[p] = quantity_of(section, keys[p]);
-        p += 1;
+    for (p, &k) in keys.iter().enumerate() {
+        out[p] = quantity_of(section, k);
     }
 }
 
@@ -117,10 +108,8 @@ fn scatter(keys: &[u32], amounts: &[u32], out: &mut [u32])
     ensures { Scattered keys.now (length keys.now) (at amounts.now)
         out.old out.new }
 {
-    let mut p = 0;
-    while p < keys.len() {
-        out[row_of(keys[p])] = amounts[p];
-        p += 1;
+    for (&k, &amount) in keys.iter().zip(amounts) {
+        out[row_of(k)] = amount;
     }
 }
 
@@ -134,7 +123,7 @@ fn share_out(section: &[u8], keys: &[u32], left: u32, out: &mut [u32])
     let mut quantities = [0u32; Contract::MOST];
     let mut amounts = [0u32; Contract::MOST];
     gather(section, keys, &mut quantities);
-    let v = share::share(left, &quantities[..keys.len()], &mut amounts);
+    let _ = share::share(left, &quantities[..keys.len()], &mut amounts);
     scatter(keys, &amounts, out);
 }
 
@@ -142,13 +131,9 @@ fn total_of(section: &[u8], keys: &[u32]) -> u64
     requires { length keys.now ≤ most_contracts }
     ensures { result ≡ total (quantities_of section.now keys.now) }
 {
-    let mut all: u64 = 0;
-    let mut p = 0;
-    while p < keys.len() {
-        all += sums::wide(quantity_of(section, keys[p]));
-        p += 1;
-    }
-    all
+    keys.iter()
+        .map(|&k| u64::from(quantity_of(section, k)))
+        .sum()
 }
 
 // A group that doesn't fit: one row gets what is left, several share it.
@@ -158,14 +143,14 @@ fn share_left(section: &[u8], keys: &[u32], left: u32, out: &mut [u32])
     ensures { Scattered keys.now (length keys.now)
         (share_of left (quantities_of section.now keys.now)) out.old out.new }
 {
-    if keys.len() == 1 {
-        out[row_of(keys[0])] = left;
+    if let &[k] = keys {
+        out[row_of(k)] = left;
         return;
     }
     share_out(section, keys, left, out);
 }
 
-// A group in full where all of it fits, else the demand left is shared.
+// A group in full where all of it fits, else the demand left is shared. Handed back is what is left behind it.
 fn serve_group(section: &[u8], keys: &[u32], tally: Tally, out: &mut [u32]) -> Tally
     requires { Rowed keys.now (length keys.now) (length out.old) × (length keys.now ≤ most_contracts) }
     ensures { (result.left ≡ tally.left - total (quantities_of section.now keys.now))
@@ -177,7 +162,7 @@ fn serve_group(section: &[u8], keys: &[u32], tally: Tally, out: &mut [u32]) -> T
         return tally;
     }
     let asked = total_of(section, keys);
-    if sums::wide(tally.left) < asked {
+    if u64::from(tally.left) < asked {
         share_left(section, keys, tally.left, out);
         return Tally { left: 0 };
     }
@@ -187,32 +172,13 @@ fn serve_group(section: &[u8], keys: &[u32], tally: Tally, out: &mut [u32]) -> T
 
 // ---- kind 3: one group after the other
 
-// Where the rows of one price end that begin at p.
-fn group_end(keys: &[u32], p: usize) -> usize
-    requires { p < length keys.now }
-    ensures { Group keys.now p result }
-{
-    let group = keys[p] / crate::ROW_SPAN;
-    let mut e = p + 1;
-    while e < keys.len() {
-        if keys[e] / crate::ROW_SPAN != group {
-            return e;
-        }
-        e += 1;
-    }
-    e
-}
-
 pub(crate) fn serve_asked(section: &[u8], keys: &[u32], left: u32, out: &mut [u32])
     requires { RisingKeys keys.now (length out.old) }
     ensures { Walked section.now keys.now left (length keys.now)
         out.old out.new }
 {
     let mut tally = Tally { left };
-    let mut p = 0;
-    while p < keys.len() {
-        let e = group_end(keys, p);
-        tally = serve_group(section, &keys[p..e], tally, out);
-        p = e;
+    for group in keys.chunk_by(|&k, &next| k / crate::ROW_SPAN == next / crate::ROW_SPAN) {
+        tally = serve_group(section, group, tally, out);
     }
 }

@@ -42,6 +42,8 @@ pub taken_above : (y x w left : ℕ) → x < y → taken y x w left ≡ 0
 unfolding taken
 taken_above y x w left h = omega (arith, pick_ge y x w (omega arith), pick_ne y x (min w left) (λ q. omega arith))
 
+pub ruleset takes = (taken_below_lem, taken_level, taken_above)
+
 module _ (key v : ℕ → ℕ) (n : ℕ) where
   pub below_zero : held_below key v n 0 ≡ 0
   unfolding held_below

@@ -7,92 +7,62 @@ ghost use Rattle.sums.specs.Sums.{peak, pick};
 ghost use Rattle.sums.specs.Lists.{at};
 ghost use Rattle.crossing.specs.Crossing.{held_below, Crossing};
 
-// How many rows both lists have.
-fn row_count(keys: &[u32], values: &[u32]) -> usize
-    ensures { result ≡ min (length keys.now) (length values.now) }
-{
-    let x = keys.len();
-    let y = values.len();
-    if x < y { x } else { y }
-}
-
 // The highest key.
-fn highest(keys: &[u32], n: usize) -> u32
-    requires { n ≤ length keys.now }
-    ensures { result ≡ peak n (at keys.now) }
+#[tactic(auto, using(sums::proofs::Sums::peak_step), unfolding(sums::specs::Sums::peak))]
+fn highest(keys: &[u32]) -> u32
+    ensures { result ≡ peak (length keys.now) (at keys.now) }
 {
-    let mut top = 0;
-    let mut i = 0;
-    while i < n {
-        top = sums::most(top, keys[i]);
-        i += 1;
+    let mut top: u32 = 0;
+    for &y in keys {
+        top = top.max(y);
     }
     top
 }
 
 // What a row of key y that holds v holds below the key x.
+#[tactic(auto, using(sums::proofs::Picks::picks))]
 fn below(y: u32, x: u32, v: u32) -> u32
     ensures { result ≡ pick (ltb y x) v }
 {
     if y < x { v } else { 0 }
 }
 
-// What is held below the key x in the rows from `from` up to `to`: one sum of values, with no branch in it.
-fn held_below(keys: &[u32], values: &[u32], from: usize, to: usize, x: u32) -> u64
-    requires { (from ≤ to) × (to ≤ from + 64) × (to ≤ length keys.now) × (to ≤ length values.now) }
-    ensures { result + held_below (at keys.now) (at values.now) from x
-        ≡ held_below (at keys.now) (at values.now) to x }
+// So many rows are summed at once, with no regard to the demand: their sum fits.
+const STRETCH: usize = 64;
+
+// What is held below the key x in a stretch of rows: one sum of values, with no branch in it.
+#[tactic(auto, using(crate::proofs::Rows::held_none))]
+fn held_below(keys: &[u32], values: &[u32], x: u32) -> u64
+    requires { (length values.now ≡ length keys.now) × (length keys.now ≤ 64) }
+    ensures { result ≡ held_below (at keys.now) (at values.now) (length keys.now) x }
 {
     let mut s: u64 = 0;
-    let mut i = from;
-    while i < to {
-        s += sums::wide(below(keys[i], x, values[i]));
-        i += 1;
+    for (&y, &v) in keys.iter().zip(values) {
+        s += u64::from(below(y, x, v));
     }
     s
 }
 
-// The end of the next rows of n, at most 64 of them.
-fn next_end(from: usize, n: usize) -> usize
-    requires { from < n }
-    ensures { (from < result) × (result ≤ n) × (result ≤ from + 64) }
+// What the keys below x leave of the demand.
+fn left_of(keys: &[u32], values: &[u32], demand: u32, x: u32) -> u32
+    requires { length values.now ≡ length keys.now }
+    ensures { result ≡ demand - held_below (at keys.now) (at values.now) (length keys.now) x }
 {
-    if n - from < 64 { n } else { from + 64 }
-}
-
-// x less y, not below 0.
-fn less_wide(x: u64, y: u64) -> u64
-    ensures { result ≡ x - y }
-{
-    if x < y { 0 } else { x - y }
-}
-
-// What the keys below x leave of the demand, over the first n rows.
-fn left_of(keys: &[u32], values: &[u32], n: usize, demand: u32, x: u32) -> u32
-    requires { (n ≤ length keys.now) × (n ≤ length values.now) }
-    ensures { result ≡ demand - held_below (at keys.now) (at values.now) n x }
-{
-    let mut left = sums::wide(demand);
-    let mut from = 0;
-    while from < n {
-        let to = next_end(from, n);
-        left = less_wide(left, held_below(keys, values, from, to, x));
-        from = to;
+    let mut left = u64::from(demand);
+    for (k, v) in keys.chunks(STRETCH).zip(values.chunks(STRETCH)) {
+        left = left.saturating_sub(held_below(k, v, x));
     }
     left as u32
 }
 
 // The highest key below x, or 0.
-fn highest_below(keys: &[u32], n: usize, x: u32) -> u32
-    requires { n ≤ length keys.now }
-    ensures { result ≡ peak n (λ i. pick (ltb (at keys.now i) x) (at keys.now i)) }
+#[tactic(auto, using(sums::proofs::Sums::peak_step), unfolding(sums::specs::Sums::peak))]
+fn highest_below(keys: &[u32], x: u32) -> u32
+    ensures { result ≡ peak (length keys.now) (λ i. pick (ltb (at keys.now i) x) (at keys.now i)) }
 {
-    let mut top = 0;
-    let mut i = 0;
-    while i < n {
-        let y = keys[i];
-        top = sums::most(top, below(y, x, y));
-        i += 1;
+    let mut top: u32 = 0;
+    for &y in keys {
+        top = top.max(below(y, x, y));
     }
     top
 }
@@ -101,36 +71,35 @@ fn highest_below(keys: &[u32], n: usize, x: u32) -> u32
 fn from(y: u32, x: u32) -> u32
     ensures { (x ≤ result) × (x ≤ y → result ≡ y) }
 {
-    if y < x { 4294967295 } else { y }
+    if y < x { u32::MAX } else { y }
 }
 
 // The lowest key from x on, or `high`.
-fn lowest_from(keys: &[u32], n: usize, x: u32, high: u32) -> u32
-    requires { (n ≤ length keys.now) × (x ≤ high) }
-    ensures { (x ≤ result) × (result ≤ high) × ((i : ℕ) → i < n → at keys.now i < result → at keys.now i < x) }
+fn lowest_from(keys: &[u32], x: u32, high: u32) -> u32
+    requires { x ≤ high }
+    ensures { (x ≤ result) × (result ≤ high)
+        × ((i : ℕ) → i < length keys.now → at keys.now i < result → at keys.now i < x) }
 {
     let mut low = high;
-    let mut i = 0;
-    while i < n {
-        low = sums::least(low, from(keys[i], x));
-        i += 1;
+    for &y in keys {
+        low = low.min(from(y, x));
     }
     low
 }
 
 // A crossing, by halving: it lies from `low` to `high`, which are moved to keys that there are.
-fn close_in(keys: &[u32], values: &[u32], n: usize, demand: u32) -> u32
-    requires { (n ≤ length keys.now) × (n ≤ length values.now) }
-    ensures { Crossing (at keys.now) (at values.now) n demand result }
+fn close_in(keys: &[u32], values: &[u32], demand: u32) -> u32
+    requires { length values.now ≡ length keys.now }
+    ensures { Crossing (at keys.now) (at values.now) (length keys.now) demand result }
 {
     let mut low = 0;
-    let mut high = highest(keys, n);
+    let mut high = highest(keys);
     while low < high {
         let middle = high - (high - low) / 2;
-        if left_of(keys, values, n, demand, middle) == 0 {
-            high = highest_below(keys, n, middle);
+        if left_of(keys, values, demand, middle) == 0 {
+            high = highest_below(keys, middle);
         } else {
-            low = lowest_from(keys, n, middle, high);
+            low = lowest_from(keys, middle, high);
         }
     }
     low
@@ -143,7 +112,8 @@ pub fn reach(keys: &[u32], values: &[u32], demand: u32) -> u32
     ensures { Crossing (at keys.now) (at values.now)
         (min (length keys.now) (length values.now)) demand result }
 {
-    close_in(keys, values, row_count(keys, values), demand)
+    let n = keys.len().min(values.len());
+    close_in(&keys[..n], &values[..n], demand)
 }
 
 // What those below the key x leave of the demand.
@@ -151,5 +121,6 @@ pub fn left_below(keys: &[u32], values: &[u32], demand: u32, x: u32) -> u32
     ensures { result ≡ demand - held_below (at keys.now) (at values.now)
         (min (length keys.now) (length values.now)) x }
 {
-    left_of(keys, values, row_count(keys, values), demand, x)
+    let n = keys.len().min(values.len());
+    left_of(&keys[..n], &values[..n], demand, x)
 }

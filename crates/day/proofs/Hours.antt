@@ -1,5 +1,6 @@
 -- The hours of a day one after another: each is settled into its own part, which later hours leave alone and earlier ones have not
 -- touched. Assumes nothing.
+use Rattle.std.specs.Prelude.{Ok, Err}
 use Prim.Native.Nat.{ℕ, ◌+◌, ◌*◌, ◌<◌}
 use native.Mathlib.Omega.{arith}
 use native.Mathlib.Decide.{dec_lt}
@@ -14,7 +15,7 @@ use borrow.Rule.Slice.PartMut.{put_mid}
 use Rattle.sums.proofs.Tests.{all_true}
 use Rattle.refusals.specs.Refusals.{bad_length, no_room, refused_unless}
 use Rattle.refusals.specs.declared.Refusal.{Refusal}
-use Rattle.refusals.specs.declared.Verdict.{Verdict}
+use Rattle.refusals.specs.Refusals.{Verdict}
 use Rattle.refusals.proofs.Fine.{fine_parts, fine_test}
 use Rattle.hour.specs.Answer.{Lent, lent}
 use Rattle.hour.specs.declared.Summary.{Summary}
@@ -25,7 +26,7 @@ use Rattle.day.specs.Steps.{Fits, HasPart, OneHour, HoursDone}
 use Rattle.day.proofs.Parts.{part_long, part_back, only_back, part_other, part_kept, kept_none, kept_next}
 
 -- ---- a call that is not refused has room for all
-pub fits_of : (bytes lengths : List ℕ) (l : Lent) → day_verdict bytes lengths l ≡ Verdict.Fine → Fits bytes lengths l
+pub fits_of : (bytes lengths : List ℕ) (l : Lent) → day_verdict bytes lengths l ≡ Ok tt → Fits bytes lengths l
 unfolding whole_verdict
 fits_of bytes lengths l e =
     let v =
@@ -102,21 +103,6 @@ module _ (bytes lengths : List ℕ) (before : Lent) where
         amounts = kept_none 0 _ _;
       }
 
-  -- ---- the lists are still long enough for hour h
-  pub has_part : (h : ℕ) (now : Lent) (r : List Summary)
-      → h < hours
-      → Fits bytes lengths before
-      → HoursDone h bytes lengths before now r
-      → HasPart h now
-  has_part h now r l fits d =
-      record {
-        in_day = l;
-        figures = omega (arith, fits.figures, d.figures.long);
-        money = omega (arith, fits.money, d.money.long);
-        schedule = omega (arith, fits.schedule, d.schedule.long);
-        amounts = omega (arith, fits.amounts, d.amounts.long);
-      }
-
   -- ---- one hour more
   module _ (h : ℕ) (now next : Lent) (r : List Summary) (s : Summary) (l : h < hours)
       (d : HoursDone h bytes lengths before now r)
@@ -163,7 +149,7 @@ module _ (bytes lengths : List ℕ) (before : Lent) where
 
   -- ---- all hours, and a call that is refused
   pub day_done : (v : Verdict) (after : Lent) (r : List Summary)
-      → v ≡ Verdict.Fine
+      → v ≡ Ok tt
       → HoursDone hours bytes lengths before after r
       → DayOutcome v bytes lengths before after r
   day_done v after r e d =
@@ -178,7 +164,7 @@ module _ (bytes lengths : List ℕ) (before : Lent) where
       })
 
   pub day_refused : (v : Verdict) (q : Refusal)
-      → v ≡ Verdict.Refused q
+      → v ≡ Err q
       → DayOutcome v bytes lengths before before
       (replicate hours (record { number = q.number; place = q.place; price = 0; demand = 0; losses = 0 }))
   day_refused v q e =

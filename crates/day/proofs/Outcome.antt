@@ -1,5 +1,6 @@
 -- WHAT A DAY GIVES, by the promise of `settle_day` alone: `DaySettled bytes lengths before after r` says that for these bytes and
 -- lengths it returns the summaries r, and that the four lent lists, `before` at entry, are `after` at exit. Assumes nothing.
+use Rattle.std.specs.Prelude.{Ok, Err}
 use Prim.Native.Nat.{ℕ, zero, suc, ◌+◌, ◌-◌, ◌*◌, ◌<◌}
 use native.Mathlib.Omega.{arith}
 use native.Mathlib.Decide.{dec_lt}
@@ -10,7 +11,7 @@ use lib.ListN.{get_or}
 use lib.Seq.{ext_get_or}
 use Rattle.refusals.specs.Refusals.{cells}
 use Rattle.refusals.specs.declared.Refusal.{Refusal}
-use Rattle.refusals.specs.declared.Verdict.{Verdict}
+use Rattle.refusals.specs.Refusals.{Verdict}
 use Rattle.refusals.proofs.Fine.{not_fine}
 use Rattle.hour.specs.Answer.{Lent, lent}
 use Rattle.hour.specs.declared.Summary.{Summary}
@@ -38,31 +39,31 @@ module _ {A : Type 0} (d : A) (w : ℕ) where
   list_one : (v : Verdict) (before x y : List A)
       → KeptFrom d (cells v (w * hours)) before x
       → KeptFrom d (cells v (w * hours)) before y
-      → (v ≡ Verdict.Fine → (h : ℕ) → h < hours → part w x h ≡ part w y h)
+      → (v ≡ Ok tt → (h : ℕ) → h < hours → part w x h ≡ part w y h)
       → x ≡ y
-  list_one Verdict.Fine before x y p q same =
+  list_one (Ok tt) before x y p q same =
       ext_get_or d x y (p.long ∙ sym q.long) (λ k l. go k (dec_lt k (w * hours)))
     where
       go : (k : ℕ) → Dec (k < w * hours) → get_or x k d ≡ get_or y k d
       go k (yes m) = below x y k hours (same refl) m
       go k (no m) = p.same k (omega arith) ∙ sym (q.same k (omega arith))
-  list_one (Verdict.Refused r) before x y p q same = kept_all d before x p ∙ sym (kept_all d before y q)
+  list_one (Err r) before x y p q same = kept_all d before x p ∙ sym (kept_all d before y q)
 
 -- ---- an hour's summary and, where the call is not refused, its part
 summary_one : (v : Verdict) (sheet : List ℕ) (before x y : Lent) (q r : Summary)
     → HourIs v sheet before x q
     → HourIs v sheet before y r
     → q ≡ r
-summary_one Verdict.Fine sheet before x y q r h k = (settled_unique sheet before x y q r h k).0
-summary_one (Verdict.Refused w) sheet before x y q r h k = h ∙ sym k
+summary_one (Ok tt) sheet before x y q r h k = (settled_unique sheet before x y q r h k).0
+summary_one (Err w) sheet before x y q r h k = h ∙ sym k
 
 part_one : (v : Verdict) (sheet : List ℕ) (before x y : Lent) (q r : Summary)
-    → v ≡ Verdict.Fine
+    → v ≡ Ok tt
     → HourIs v sheet before x q
     → HourIs v sheet before y r
     → x ≡ y
-part_one Verdict.Fine sheet before x y q r e h k = (settled_unique sheet before x y q r h k).1
-part_one (Verdict.Refused w) sheet before x y q r e h k = not_fine w e
+part_one (Ok tt) sheet before x y q r e h k = (settled_unique sheet before x y q r h k).1
+part_one (Err w) sheet before x y q r e h k = not_fine w e
 
 -- For one verdict of the whole call there is one outcome,
 pub outcome_one : (v : Verdict) (bytes lengths : List ℕ) (before x y : Lent) (q r : List Summary)
@@ -81,7 +82,7 @@ outcome_one v bytes lengths before x y q r a b = (
       (λ e h l. ap (λ (t : Lent). t.amounts) (parts e h l))),
 )
   where
-    parts : v ≡ Verdict.Fine → (h : ℕ) → h < hours → part_of x h ≡ part_of y h
+    parts : v ≡ Ok tt → (h : ℕ) → h < hours → part_of x h ≡ part_of y h
     parts e h l = part_one v _ _ _ _ _ _ e (a.hour h l) (b.hour h l)
 
     same : (x y : Lent)
@@ -103,7 +104,7 @@ one_outcome bytes lengths before = outcome_one (day_verdict bytes lengths before
 module _ (bytes lengths : List ℕ) (before after : Lent) (r : List Summary)
     (done : DaySettled bytes lengths before after r) where
   -- Where the call is not refused, each hour is what its sheet gives alone with its part lent.
-  pub hour_alone : day_verdict bytes lengths before ≡ Verdict.Fine
+  pub hour_alone : day_verdict bytes lengths before ≡ Ok tt
       → (h : ℕ)
       → h < hours
       → Settled (hour_sheet bytes lengths h) (part_of before h) (part_of after h) (get_or r h no_summary)
@@ -111,7 +112,7 @@ module _ (bytes lengths : List ℕ) (before after : Lent) (r : List Summary)
 
   -- A call that is refused has that refusal in all 24 summaries and leaves the lists as they were.
   pub refused_whole : (q : Refusal)
-      → day_verdict bytes lengths before ≡ Verdict.Refused q
+      → day_verdict bytes lengths before ≡ Err q
       → ((h : ℕ)
       → h < hours
       → get_or r h no_summary ≡ record { number = q.number; place = q.place; price = 0; demand = 0; losses = 0 })

@@ -1,11 +1,12 @@
 -- Document 02, 'A day at one go': 24 sheets one behind another, a length for each, and the four lent lists, of which each hour has its
 -- own equal part, sized for the largest sheet. Assumes nothing.
+use Rattle.std.specs.Prelude.{Ok, Err}
 use Rattle.std.specs.Prelude.{ℕ, ◌*◌, ◌≤◌, ◌<◌, Bool, ◌&&◌, List, [], ◌∷◌, ◌≡◌, leb, pos, length, get_or, take, drop}
 use Rattle.sums.specs.Sums.{sum}
 use Rattle.sums.specs.Lists.{at}
 pub use Rattle.sums.specs.Hours.{hours}
 use Rattle.refusals.specs.Refusals.{bad_length, no_room, refused_unless, first_of, cells}
-use Rattle.refusals.specs.declared.Verdict.{Verdict}
+use Rattle.refusals.specs.Refusals.{Verdict}
 use Rattle.limits.specs.Limits.{most_agents, most_plants, most_contracts}
 use Rattle.columns.specs.Columns.{hour_of}
 use Rattle.hour.specs.Lines.{cells_per_agent}
@@ -62,8 +63,8 @@ day_verdict bytes lengths l =
 
 -- an hour's summary and its part: what its sheet gives alone with that part lent; where the whole call is refused, that refusal
 abbrev pub HourIs : Verdict → (sheet : List ℕ) (before after : Lent) → Summary → Type 0
-HourIs Verdict.Fine sheet before after r = Settled sheet before after r
-HourIs (Verdict.Refused q) sheet before after r = r ≡ summary_of (Verdict.Refused q) (hour_of sheet)
+HourIs (Ok tt) sheet before after r = Settled sheet before after r
+HourIs (Err q) sheet before after r = r ≡ summary_of (Err q) (hour_of sheet)
 
 -- a list keeps its length and all cells from n on; d stands past a list's end
 pub record KeptFrom {A : Type 0} (d : A) (n : ℕ) (before after : List A) : Type 0 where

@@ -1,7 +1,7 @@
 // A day at one go: 24 sheets, one behind another, each settled into its own part of the four lent lists.
 #![tactic(auto)]
 
-ghost use Rattle.std.specs.Prelude.{◌≡◌, ◌+◌, ◌*◌, ◌≤◌, [], ◌∷◌, replicate};
+ghost use Rattle.std.specs.Prelude.{◌≡◌, [], ◌∷◌, replicate};
 ghost use Rattle.refusals.specs.Refusals.{bad_length, no_room, refused_unless, first_of};
 ghost use Rattle.hour.specs.Answer.{lent};
 ghost use Rattle.day.specs.Day.{start_of, hours, room_for_day, whole_verdict, DaySettled};
@@ -22,29 +22,13 @@ pub const SCHEDULE: usize = Plant::MOST;
 
 pub const AMOUNTS: usize = Contract::MOST;
 
-// A length as a count of bytes.
-fn size(length: u32) -> usize
-    ensures { (result ≡ length) × (result ≤ 4294967295) }
-{
-    length as usize
-}
-
-// One length more, at 64 bits: 24 lengths of 32 bits cannot wrap it.
-fn with_length(sum: usize, length: u32) -> usize
-    requires { sum ≤ 4294967295 * hours }
-    ensures { (result ≡ sum + length) × (result ≤ sum + 4294967295) }
-{
-    sum + size(length)
-}
-
+// All lengths together, at 64 bits: 24 lengths of 32 bits cannot wrap it.
 fn total(lengths: &[u32; HOURS]) -> usize
     ensures { result ≡ start_of lengths.now hours }
 {
     let mut sum = 0;
-    let mut h = 0;
-    while h < HOURS {
-        sum = with_length(sum, lengths[h]);
-        h += 1;
+    for &length in lengths {
+        sum += length as usize;
     }
     sum
 }
@@ -69,10 +53,11 @@ fn first_refusal(fits: bool, room: bool) -> Verdict
     if !room {
         return refusals::refuse(Refusal::ROOM, 0);
     }
-    Verdict::Fine
+    Ok(())
 }
 
 // The refusals of the whole call, from the lengths of all that is lent.
+#[tactic(auto, unfolding(crate::specs::Day::whole_verdict))]
 pub fn judge(
     bytes: usize,
     lengths: &[u32; HOURS],
@@ -148,13 +133,10 @@ fn settle_hours(
 {
     let mut all = alike(0, 0);
     let mut start = 0;
-    let mut h = 0;
-    while h < HOURS {
-        let end = start + size(lengths[h]);
-        let s = settle_hour(h, &sheets[start..end], figures, money, schedule, amounts);
-        all[h] = s;
+    for h in 0..HOURS {
+        let end = start + lengths[h] as usize;
+        all[h] = settle_hour(h, &sheets[start..end], figures, money, schedule, amounts);
         start = end;
-        h += 1;
     }
     all
 }
@@ -180,7 +162,7 @@ pub fn settle_day(
         schedule.len(),
         amounts.len(),
     );
-    if let Verdict::Refused(r) = verdict {
+    if let Err(r) = verdict {
         return alike(r.number, r.place);
     }
     settle_hours(sheets, lengths, figures, money, schedule, amounts)

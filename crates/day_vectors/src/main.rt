@@ -7,11 +7,8 @@ ghost use Rattle.std.specs.Prelude.{◌≤◌};
 
 use day::{AMOUNTS, FIGURES, HOURS, MONEY, SCHEDULE};
 use hour::Summary;
-use input::Input;
-use input::cases::Next;
 use limits::Agent;
-use printing::Printed;
-use sheet::{Counts, Reading};
+use sheet::Counts;
 use std::io;
 use std::io::Read;
 
@@ -23,16 +20,23 @@ const OWED: i64 = 6510615555426900570;
 // More days than these are not looked at.
 const MOST_DAYS: u64 = 1000000;
 
+// The lent lists, behind a call.
+#[derive(Clone, Copy)]
+struct Lists<'a> {
+    figures: &'a [u32],
+    money: &'a [i64],
+    schedule: &'a [u32],
+    amounts: &'a [u32],
+}
+
 // The next number as a count, at most so many.
 fn next_size<R: Read>(from: &mut R, most: usize) -> usize
     ensures { result ≤ most }
 {
-    let piece = input::cases::next_number(from);
-    let Next::Number(x) = piece else {
+    let Ok(Some(x)) = input::cases::next_number(from) else {
         return 0;
     };
-    let n = x as usize;
-    if most < n { most } else { n }
+    most.min(x as usize)
 }
 
 // A number with its sign, as the last of an agent's line on a page: behind `hour 0 0 0`, a line end and `0 1 0 0 0 0 0 `.
@@ -48,18 +52,13 @@ fn print_owed<P: Print>(rt: &P, x: i64) -> io::Result<()> {
     let figures = [0u32; Agent::CELLS];
     let money = [x];
     let mut text = [0u8; 64];
-    let printed = printing::print(none, &kinds, &figures, &money, &mut text);
-    let Printed::Done(n) = printed else {
-        return Ok(());
-    };
-    if n <= 64 {
-        if 26 < n {
-            let e = n - 1;
+    match printing::print(none, &kinds, &figures, &money, &mut text) {
+        Ok(n) if 26 < n && n <= 64 => {
             rt.print(" ")?;
-            rt.write_all(&text[25..e])?;
+            rt.write_all(&text[25..n - 1])
         }
+        _ => Ok(()),
     }
-    Ok(())
 }
 
 // Cell k of a list, and as it was before the call past the end.
@@ -91,59 +90,34 @@ fn print_money<P: Print>(rt: &P, list: &[i64], a: usize, n: usize) -> io::Result
 }
 
 // Whether the cells from a to e were not written.
-fn cells_kept(list: &[u32], a: usize, e: usize) -> bool {
-    for k in a..e {
-        if cell(list, k) != CELL {
-            return false;
-        }
-    }
-    true
-}
-
-fn money_kept(list: &[i64], a: usize, e: usize) -> bool {
-    for k in a..e {
-        if owed(list, k) != OWED {
-            return false;
-        }
-    }
-    true
+fn kept<T: Copy + PartialEq>(list: &[T], a: usize, e: usize, before: T) -> bool {
+    list.iter().take(e).skip(a).all(|x| *x == before)
 }
 
 // The counts of a sheet's rows, 0 where it is refused.
 fn counts(sheet: &[u8]) -> Counts {
-    let reading = sheet::read(sheet);
-    let Reading::Accepted(c) = reading else {
-        return Counts {
-            agents: 0,
-            boundaries: 0,
-            plants: 0,
-            contracts: 0,
-        };
-    };
-    c
+    sheet::read(sheet).unwrap_or(Counts {
+        agents: 0,
+        boundaries: 0,
+        plants: 0,
+        contracts: 0,
+    })
 }
 
 // How many cells there are for n rows of a settled hour, none for a refused one.
 fn needed(settled: bool, n: usize) -> usize
     ensures { result ≤ 256 }
 {
-    if settled {
-        if n <= 256 {
-            return n;
-        }
-    }
-    0
+    if settled && n <= 256 { n } else { 0 }
 }
 
 // The n bytes from a on, or none where they are not there.
 fn stretch(bytes: &[u8], a: usize, n: usize) -> &[u8] {
-    if a <= bytes.len() {
-        if n <= bytes.len() - a {
-            let e = a + n;
-            return &bytes[a..e];
-        }
+    if a <= bytes.len() && n <= bytes.len() - a {
+        &bytes[a..a + n]
+    } else {
+        &[]
     }
-    &bytes[..0]
 }
 
 // The cells of an hour's parts that its n agents, p plants and q contracts ask for.
@@ -153,45 +127,32 @@ fn print_parts<P: Print>(
     n: usize,
     p: usize,
     q: usize,
-    figures: &[u32],
-    money: &[i64],
-    schedule: &[u32],
-    amounts: &[u32],
+    lists: Lists<'_>,
 ) -> io::Result<()>
     requires { (h ≤ 24) × (n ≤ 256) × (p ≤ 256) × (q ≤ 256) }
 {
     rt.print("figures")?;
-    print_cells(rt, figures, FIGURES * h, Agent::CELLS * n)?;
+    print_cells(rt, lists.figures, FIGURES * h, Agent::CELLS * n)?;
     rt.print("money")?;
-    print_money(rt, money, MONEY * h, n)?;
+    print_money(rt, lists.money, MONEY * h, n)?;
     rt.print("schedule")?;
-    print_cells(rt, schedule, SCHEDULE * h, p)?;
+    print_cells(rt, lists.schedule, SCHEDULE * h, p)?;
     rt.print("amounts")?;
-    print_cells(rt, amounts, AMOUNTS * h, q)
+    print_cells(rt, lists.amounts, AMOUNTS * h, q)
 }
 
 // Whether all else in the parts is as it was.
-fn parts_kept(
-    h: usize,
-    n: usize,
-    p: usize,
-    q: usize,
-    figures: &[u32],
-    money: &[i64],
-    schedule: &[u32],
-    amounts: &[u32],
-) -> bool
+fn parts_kept(h: usize, n: usize, p: usize, q: usize, lists: Lists<'_>) -> bool
     requires { (h ≤ 24) × (n ≤ 256) × (p ≤ 256) × (q ≤ 256) }
 {
-    let f = cells_kept(
-        figures,
-        FIGURES * h + Agent::CELLS * n,
-        FIGURES * h + FIGURES,
-    );
-    let m = money_kept(money, MONEY * h + n, MONEY * h + MONEY);
-    let s = cells_kept(schedule, SCHEDULE * h + p, SCHEDULE * h + SCHEDULE);
-    let t = cells_kept(amounts, AMOUNTS * h + q, AMOUNTS * h + AMOUNTS);
-    f & m & s & t
+    let f = FIGURES * h;
+    let m = MONEY * h;
+    let s = SCHEDULE * h;
+    let t = AMOUNTS * h;
+    kept(lists.figures, f + Agent::CELLS * n, f + FIGURES, CELL)
+        && kept(lists.money, m + n, m + MONEY, OWED)
+        && kept(lists.schedule, s + p, s + SCHEDULE, CELL)
+        && kept(lists.amounts, t + q, t + AMOUNTS, CELL)
 }
 
 // A line that no expected answer has, unless the lists were kept.
@@ -208,10 +169,7 @@ fn print_hour<P: Print>(
     h: usize,
     sheet: &[u8],
     summaries: &[u32],
-    figures: &[u32],
-    money: &[i64],
-    schedule: &[u32],
-    amounts: &[u32],
+    lists: Lists<'_>,
 ) -> io::Result<()>
     requires { h ≤ 24 }
 {
@@ -223,23 +181,10 @@ fn print_hour<P: Print>(
     let p = needed(settled, c.plants);
     let q = needed(settled, c.contracts);
     if settled {
-        print_parts(rt, h, n, p, q, figures, money, schedule, amounts)?;
+        print_parts(rt, h, n, p, q, lists)?;
     }
-    let kept = parts_kept(h, n, p, q, figures, money, schedule, amounts);
+    let kept = parts_kept(h, n, p, q, lists);
     tell_unless(rt, kept)
-}
-
-fn size(length: u32) -> usize {
-    length as usize
-}
-
-fn plus(a: usize, b: usize) -> usize {
-    if a < 1099511627776 {
-        if b < 1099511627776 {
-            return a + b;
-        }
-    }
-    0
 }
 
 fn print_hours<P: Print>(
@@ -247,28 +192,24 @@ fn print_hours<P: Print>(
     lengths: &[u32; HOURS],
     sheets: &[u8],
     summaries: &[u32],
-    figures: &[u32],
-    money: &[i64],
-    schedule: &[u32],
-    amounts: &[u32],
+    lists: Lists<'_>,
 ) -> io::Result<()> {
     let mut start = 0;
     for h in 0..HOURS {
-        let n = size(lengths[h]);
+        let n = lengths[h] as usize;
         let sheet = stretch(sheets, start, n);
-        print_hour(rt, h, sheet, summaries, figures, money, schedule, amounts)?;
-        start = plus(start, n);
+        print_hour(rt, h, sheet, summaries, lists)?;
+        start = start.saturating_add(n);
     }
     Ok(())
 }
 
 // Whether nothing was written behind the parts of 24 hours.
-fn rest_kept(figures: &[u32], money: &[i64], schedule: &[u32], amounts: &[u32]) -> bool {
-    let f = cells_kept(figures, FIGURES * HOURS, figures.len());
-    let m = money_kept(money, MONEY * HOURS, money.len());
-    let s = cells_kept(schedule, SCHEDULE * HOURS, schedule.len());
-    let t = cells_kept(amounts, AMOUNTS * HOURS, amounts.len());
-    f & m & s & t
+fn rest_kept(lists: Lists<'_>) -> bool {
+    kept(lists.figures, FIGURES * HOURS, lists.figures.len(), CELL)
+        && kept(lists.money, MONEY * HOURS, lists.money.len(), OWED)
+        && kept(lists.schedule, SCHEDULE * HOURS, lists.schedule.len(), CELL)
+        && kept(lists.amounts, AMOUNTS * HOURS, lists.amounts.len(), CELL)
 }
 
 // Settles one day into the fronts of these lists, as long as the input says, and prints the answer.
@@ -296,11 +237,14 @@ fn settle_and_print<P: Print, R: Read>(
         &mut amounts[..t],
         &mut summaries,
     );
-    print_hours(
-        rt, lengths, sheets, &summaries, figures, money, schedule, amounts,
-    )?;
-    let kept = rest_kept(figures, money, schedule, amounts);
-    tell_unless(rt, kept)
+    let lists = Lists {
+        figures,
+        money,
+        schedule,
+        amounts,
+    };
+    print_hours(rt, lengths, sheets, &summaries, lists)?;
+    tell_unless(rt, rest_kept(lists))
 }
 
 fn run_day<P: Print, R: Read>(
@@ -339,8 +283,7 @@ fn next_day<P: Print + Eprint, R: Read>(
         return Ok(false);
     }
     let n = next_size(from, buf.len());
-    let got = input::read_all(from, &mut buf[..n]);
-    let Input::Bytes(k) = got else {
+    let Ok(k) = input::read_all(from, &mut buf[..n]) else {
         return Ok(false);
     };
     if k < n {

@@ -3,6 +3,7 @@
 -- `DaySettled bytes lengths before after r` is the promise of `settle_day`. Where the whole call is not refused, hour h is settled as its
 -- sheet is alone, so whatever holds of every settlement holds of it; and its part has room for every sheet, so that no duty asks
 -- for room. Assumes nothing.
+use Rattle.std.specs.Prelude.{Ok}
 use Prim.Native.Nat.{ℕ, ◌+◌, ◌≤◌, ◌<◌}
 use native.Mathlib.Omega.{arith}
 use native.Mathlib.Decide.{dec_lt}
@@ -12,7 +13,6 @@ use mathlib.Core.Path.{◌≡◌}
 use lib.IntN.{pos}
 use lib.ListN.{get_or}
 use Rattle.sums.specs.Sums.{sum, pick}
-use Rattle.refusals.specs.declared.Verdict.{Verdict}
 use Rattle.columns.specs.Columns.{hour_of}
 use Rattle.hour.specs.Signed.{signed_sum}
 use Rattle.hour.specs.Answer.{Lent, Roomy, share_in, contracted_in, bought_in, sold_in, money_in, schedule_in, amount_in}
@@ -28,7 +28,7 @@ use Rattle.day.proofs.Hours.{fits_of}
 use Rattle.day.proofs.Outcome.{hour_alone}
 
 module _ (bytes lengths : List ℕ) (before after : Lent) (r : List Summary)
-    (done : DaySettled bytes lengths before after r) (read : day_verdict bytes lengths before ≡ Verdict.Fine)
+    (done : DaySettled bytes lengths before after r) (read : day_verdict bytes lengths before ≡ Ok tt)
     (h : ℕ) (of_day : h < hours) where
   -- the hour's sheet, its part at entry and at exit, and its summary
   abbrev sheet : List ℕ

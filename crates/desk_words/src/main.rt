@@ -5,7 +5,6 @@
 #![tactic(auto)]
 
 use channels::{files, say};
-use input::Input;
 use std::env::Env;
 use std::io;
 use std::rt::Files;
@@ -37,11 +36,11 @@ fn show<R: Env + Files + Print>(rt: &R, i: usize) -> io::Result<()> {
     let n = words::word(rt, i, &mut path);
     let mut bytes = [0u8; 4096];
     match input::read_file(rt, &path[..n], &mut bytes) {
-        Input::Bytes(m) => {
+        Ok(m) => {
             say(rt, &bytes[..m])?;
             say(rt, b"\n")
         }
-        Input::Failed(_) => say(rt, b"no file\n"),
+        Err(_) => say(rt, b"no file\n"),
     }
 }
 
@@ -52,10 +51,8 @@ fn run_command<R: Env + Files + io::Input + Print + Eprint>(
     end: usize,
 ) -> io::Result<()> {
     say_heading(rt, first, end)?;
-    if first < end {
-        if is_word(rt, first, b"show") {
-            return show(rt, first + 1);
-        }
+    if first < end && is_word(rt, first, b"show") {
+        return show(rt, first + 1);
     }
     console::run_words(rt, first, end);
     Ok(())

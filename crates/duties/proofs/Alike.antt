@@ -1,5 +1,6 @@
 -- Two sheets with equal agents, boundaries and plants. Demands, schedule and price come from these alone; what a retailer is assigned
 -- comes from its own rows and its demand, and what a generator sells is the sum over the buyers that it sells to. Assumes nothing.
+use Rattle.std.specs.Prelude.{Ok}
 use Prim.Native.Nat.{ℕ, zero, suc, ◌+◌, ◌*◌, ◌<◌}
 use native.Mathlib.Omega.{arith}
 use native.Mathlib.Decide.{dec_lt}
@@ -24,7 +25,6 @@ use Rattle.hour.specs.Sound.{Sound}
 use Rattle.hour.specs.Balance.{imported, exported, consumption, own_import, delivered, entering, leaving, losses, consumptions}
 use Rattle.hour.specs.Balance.{loss_share, commercial, demands, hour_demand, injected, small_exports, dispatch_demand}
 use Rattle.hour.specs.Lines.{scheduled, bolsa_price, amount, own, contracted, bought, sold, money, cells_per_agent, figure}
-use Rattle.refusals.specs.declared.Verdict.{Verdict}
 use Rattle.hour.specs.Answer.{summary_of}
 use Rattle.hour.specs.declared.Summary.{Summary}
 use Rattle.hour.proofs.Cells.{figure_share, figure_own, figure_import, figure_contracted, figure_bought, figure_sold}
@@ -74,7 +74,7 @@ module _ (s t : Sheet) (e : Alike s t) where
   unfolding losses entering leaving delivered consumption own_import imported exported retails
   losses_same = rw (e.kinds, e.owners, e.factors, e.imports, e.exports)
 
-  pub first_same : (q r : Summary) → q ≡ summary_of Verdict.Fine s → r ≡ summary_of Verdict.Fine t
+  pub first_same : (q r : Summary) → q ≡ summary_of (Ok tt) s → r ≡ summary_of (Ok tt) t
       → (q.price ≡ r.price) × (q.demand ≡ r.demand) × (q.losses ≡ r.losses)
   first_same q r eq er = rw (eq, er) (price_same, demand_same, losses_same)
 

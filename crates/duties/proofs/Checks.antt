@@ -1,4 +1,5 @@
 -- From the promise of `check` to the laws of statements: what was answered, and what it says of the sheet. Assumes nothing.
+use Rattle.std.specs.Prelude.{Ok, Err}
 use Prim.Native.Nat.{ℕ, ◌≤◌}
 use native.Mathlib.Omega.{arith}
 use mathlib.Core.List.{List, [], ◌∷◌}
@@ -8,7 +9,7 @@ use lib.IntN.{pos}
 use Rattle.sums.specs.Sums.{sum}
 use Rattle.refusals.specs.Refusals.{or_else}
 use Rattle.refusals.specs.declared.Refusal.{Refusal}
-use Rattle.refusals.specs.declared.Verdict.{Verdict}
+use Rattle.refusals.specs.Refusals.{Verdict}
 use Rattle.refusals.proofs.Fine.{not_fine, else_fine, fine_parts, both_fine}
 use Rattle.sheet.specs.Reading.{read_verdict}
 use Rattle.columns.specs.Columns.{hour_of}
@@ -38,29 +39,29 @@ pub record Met (bytes : List ℕ) (price : ℕ) (l : Lent) : Type 0 where
 -- what settling passes
 pub record Settles (bytes : List ℕ) (l : Lent) : Type 0 where
   pub passes : Passes bytes
-  pub cover : cover_verdict (hour_of bytes) ≡ Verdict.Fine
-  pub room : room_verdict (hour_of bytes) l ≡ Verdict.Fine
+  pub cover : cover_verdict (hour_of bytes) ≡ Ok tt
+  pub room : room_verdict (hour_of bytes) l ≡ Ok tt
 
 module _ (bytes : List ℕ) (l : Lent) where
-  settles : read_verdict bytes ≡ Verdict.Fine → hour_verdict (hour_of bytes) l ≡ Verdict.Fine → Settles bytes l
+  settles : read_verdict bytes ≡ Ok tt → hour_verdict (hour_of bytes) l ≡ Ok tt → Settles bytes l
   unfolding hour_verdict
   settles e f =
       let all =
       fine_parts (balance_verdict (hour_of bytes) ∷ cover_verdict (hour_of bytes) ∷ room_verdict (hour_of bytes) l ∷ []) f in
       record { passes = record { read = e; balance = all.0 }; cover = all.1.0; room = all.1.1.0 }
 
-  parts : verdict_of bytes l ≡ Verdict.Fine
-      → (read_verdict bytes ≡ Verdict.Fine) × (hour_verdict (hour_of bytes) l ≡ Verdict.Fine)
+  parts : verdict_of bytes l ≡ Ok tt
+      → (read_verdict bytes ≡ Ok tt) × (hour_verdict (hour_of bytes) l ≡ Ok tt)
   unfolding verdict_of
   parts e = both_fine (read_verdict bytes) (hour_verdict (hour_of bytes) l) e
 
 module _ (bytes : List ℕ) (price : ℕ) (l : Lent) where
   -- with the sheet fine, the answer is that of the points
-  only_points : verdict_of bytes l ≡ Verdict.Fine → check_verdict bytes price l ≡ points_verdict (hour_of bytes) price l
+  only_points : verdict_of bytes l ≡ Ok tt → check_verdict bytes price l ≡ points_verdict (hour_of bytes) price l
   unfolding check_verdict
   only_points e = let p = parts bytes l e in rw (p.0, p.1) (else_fine _)
 
-  pub all_met : (r : Verdict) → r ≡ check_verdict bytes price l → r ≡ Verdict.Fine → Met bytes price l
+  pub all_met : (r : Verdict) → r ≡ check_verdict bytes price l → r ≡ Ok tt → Met bytes price l
   unfolding check_verdict
   all_met r done accepted =
       let all =
@@ -74,8 +75,8 @@ module _ (bytes : List ℕ) (price : ℕ) (l : Lent) where
         holds = (points_exact (hour_of bytes) price l ok).0 all.1.1.0;
       }
 
-  pub points_decide : (r : Verdict) → r ≡ check_verdict bytes price l → verdict_of bytes l ≡ Verdict.Fine
-      → (r ≡ Verdict.Fine) ↔ Holds (hour_of bytes) price l
+  pub points_decide : (r : Verdict) → r ≡ check_verdict bytes price l → verdict_of bytes l ≡ Ok tt
+      → (r ≡ Ok tt) ↔ Holds (hour_of bytes) price l
   points_decide r done fine =
       let p = parts bytes l fine in
       let ok = passes_sound bytes (settles bytes l p.0 p.1).passes in
@@ -85,16 +86,16 @@ module _ (bytes : List ℕ) (price : ℕ) (l : Lent) where
   pub sheet_first : (r : Verdict)
       → r ≡ check_verdict bytes price l
       → (q : Refusal)
-      → verdict_of bytes l ≡ Verdict.Refused q
-      → r ≡ Verdict.Refused q
+      → verdict_of bytes l ≡ Err q
+      → r ≡ Err q
   unfolding check_verdict verdict_of
   sheet_first r done q e = done ∙ go (read_verdict bytes) (hour_verdict (hour_of bytes) l) e
     where
-      go : (x y : Verdict) → or_else x y ≡ Verdict.Refused q
-          → or_else x (or_else y (or_else (points_verdict (hour_of bytes) price l) Verdict.Fine)) ≡ Verdict.Refused q
-      go Verdict.Fine Verdict.Fine t = not_fine q (sym t)
-      go Verdict.Fine (Verdict.Refused y) t = t
-      go (Verdict.Refused x) y t = t
+      go : (x y : Verdict) → or_else x y ≡ Err q
+          → or_else x (or_else y (or_else (points_verdict (hour_of bytes) price l) (Ok tt))) ≡ Err q
+      go (Ok _) (Ok _) t = not_fine q (sym t)
+      go (Ok _) (Err y) t = t
+      go (Err x) y t = t
 
 -- ---- what is accepted
 module _ {bytes : List ℕ} {price : ℕ} {l : Lent} (m : Met bytes price l) where
@@ -117,12 +118,12 @@ module _ {bytes : List ℕ} {price : ℕ} {l : Lent} (m : Met bytes price l) whe
 -- ---- our own lists
 
 pub own_lists_lem : (bytes : List ℕ) (before after : Lent) (s : Summary) → Settled bytes before after s → s.number ≡ 0
-    → (r : Verdict) → r ≡ check_verdict bytes s.price after → r ≡ Verdict.Fine
+    → (r : Verdict) → r ≡ check_verdict bytes s.price after → r ≡ Ok tt
 own_lists_lem bytes before after s done zero r answer =
     let t = settled_hour bytes done zero in
     let e = parts bytes before t.fine in
     let room = roomy (hour_of bytes) before (settles bytes before e.0 e.1).room in
-    let room_after : room_verdict (hour_of bytes) after ≡ Verdict.Fine =
+    let room_after : room_verdict (hour_of bytes) after ≡ (Ok tt) =
     room_fine (hour_of bytes) after
     (record {
       figures = omega (arith, room.figures, done.figures.long);
@@ -130,7 +131,7 @@ own_lists_lem bytes before after s done zero r answer =
       schedule = omega (arith, room.schedule, done.schedule.long);
       amounts = omega (arith, room.amounts, done.amounts.long);
     }) in
-    let fine_after : verdict_of bytes after ≡ Verdict.Fine =
+    let fine_after : verdict_of bytes after ≡ (Ok tt) =
     verdict_is bytes after ∙ rw (t.passes.read, t.passes.balance, t.cover, room_after) in
     let price : s.price ≡ bolsa_price (hour_of bytes) = ap (λ (x : Summary). x.price) done.answered ∙ rw t.fine in
     let holds : Holds (hour_of bytes) s.price after =

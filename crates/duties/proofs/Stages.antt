@@ -1,4 +1,5 @@
 -- Which way a settlement went, by the number it returns. Assumes nothing.
+use Rattle.std.specs.Prelude.{Ok, Err}
 use Prim.Native.Nat.{ℕ, ◌≤◌, ◌<◌}
 use native.Mathlib.Omega.{arith}
 use mathlib.Core.List.{List}
@@ -7,7 +8,7 @@ use mathlib.Core.Path.{◌≡◌, refl, ap, ◌∙◌, sym}
 use lib.IntN.{pos}
 use Rattle.sums.proofs.Fill.{filled_count, filled_same}
 use Rattle.refusals.specs.Refusals.{refused, cells, number_of}
-use Rattle.refusals.specs.declared.Verdict.{Verdict}
+use Rattle.refusals.specs.Refusals.{Verdict}
 use Rattle.sheet.specs.Reading.{read_verdict}
 use Rattle.columns.specs.Columns.{hour_of}
 use Rattle.hour.specs.Answer.{Lent, Roomy, balance_verdict, cover_verdict, room_verdict}
@@ -52,8 +53,8 @@ module _ (bytes : List ℕ) {before after : Lent} {r : Summary} (done : Settled 
   refused_leaves no_zero = go (verdict_of bytes before) refl
     where
       go : (v : Verdict) → verdict_of bytes before ≡ v → Untouched before after r
-      go Verdict.Fine e = absurd (no_zero (ap (λ (x : Summary). x.number) done.answered ∙ rw e))
-      go (Verdict.Refused q) e =
+      go (Ok _) e = absurd (no_zero (ap (λ (x : Summary). x.number) done.answered ∙ rw e))
+      go (Err q) e =
           let none : (n : ℕ) → cells (verdict_of bytes before) n ≡ 0 = λ n. rw e in
           record {
             price = ap (λ (x : Summary). x.price) done.answered ∙ rw e;
@@ -67,7 +68,7 @@ module _ (bytes : List ℕ) {before after : Lent} {r : Summary} (done : Settled 
 
   module _ (passes : Passes bytes) where
     late : r.number ≡ number_of
-        (in_order Verdict.Fine Verdict.Fine (cover_verdict (hour_of bytes)) (room_verdict (hour_of bytes) before))
+        (in_order (Ok tt) (Ok tt) (cover_verdict (hour_of bytes)) (room_verdict (hour_of bytes) before))
     late = rw (passes.read, passes.balance) at (number_is bytes before after r done)
 
     -- the number that the plants alone are refused with is the one returned
@@ -75,7 +76,7 @@ module _ (bytes : List ℕ) {before after : Lent} {r : Summary} (done : Settled 
     told n e = late ∙ rw e
 
     -- with no refusal of the plants another number is returned
-    other : cover_verdict (hour_of bytes) ≡ Verdict.Fine → (r.number ≡ 10) ⊎ (r.number ≡ 13) → ⊥
+    other : cover_verdict (hour_of bytes) ≡ Ok tt → (r.number ≡ 10) ⊎ (r.number ≡ 13) → ⊥
     other e =
         not_uncovered (room_verdict (hour_of bytes) before) (room_between (hour_of bytes) before) r.number
         (sym (rw e at late))
@@ -91,17 +92,17 @@ module _ (bytes : List ℕ) {before after : Lent} {r : Summary} (done : Settled 
         (λ h. none.0 (turned h (cover_told (hour_of bytes))), λ h. told_uncovered (none.1 h))
       where
         turned : (r.number ≡ 10) ⊎ (r.number ≡ 13)
-            → (cover_verdict (hour_of bytes) ≡ Verdict.Fine) ⊎ Uncovered (hour_of bytes)
+            → (cover_verdict (hour_of bytes) ≡ Ok tt) ⊎ Uncovered (hour_of bytes)
             → Uncovered (hour_of bytes)
         turned h (inl e) = absurd (other e h)
         turned h (inr u) = u
 
     module _ (room : Roomy (hour_of bytes) before) (otherwise : (r.number ≡ 10) ⊎ (r.number ≡ 13) → ⊥) where
-      covers : cover_verdict (hour_of bytes) ≡ Verdict.Fine
+      covers : cover_verdict (hour_of bytes) ≡ Ok tt
       covers = go (cover_told (hour_of bytes))
         where
-          go : (cover_verdict (hour_of bytes) ≡ Verdict.Fine) ⊎ Uncovered (hour_of bytes)
-              → cover_verdict (hour_of bytes) ≡ Verdict.Fine
+          go : (cover_verdict (hour_of bytes) ≡ Ok tt) ⊎ Uncovered (hour_of bytes)
+              → cover_verdict (hour_of bytes) ≡ Ok tt
           go (inl e) = e
           go (inr u) = absurd (otherwise (told_uncovered u))
 
@@ -121,11 +122,11 @@ module _ (bytes : List ℕ) {before after : Lent} {r : Summary} (done : Settled 
           }
 
 -- ---- a settlement that returns 0
-zero_fine : (c m : Verdict) → Between 10 13 c → Between 11 11 m → number_of (in_order Verdict.Fine Verdict.Fine c m) ≡ 0
-    → (c ≡ Verdict.Fine) × (m ≡ Verdict.Fine)
-zero_fine Verdict.Fine Verdict.Fine hc hm e = (refl, refl)
-zero_fine Verdict.Fine (Verdict.Refused q) hc hm e = absurd (omega arith)
-zero_fine (Verdict.Refused q) m hc hm e = absurd (omega arith)
+zero_fine : (c m : Verdict) → Between 10 13 c → Between 11 11 m → number_of (in_order (Ok tt) (Ok tt) c m) ≡ 0
+    → (c ≡ Ok tt) × (m ≡ Ok tt)
+zero_fine (Ok _) (Ok _) hc hm e = (refl, refl)
+zero_fine (Ok _) (Err q) hc hm e = absurd (omega arith)
+zero_fine (Err q) m hc hm e = absurd (omega arith)
 
 pub settled_hour : (bytes : List ℕ) {before after : Lent} {r : Summary}
     → Settled bytes before after r

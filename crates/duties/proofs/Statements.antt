@@ -3,6 +3,7 @@
 -- `r ≡ check_verdict bytes price l` is the promise of `check`: for the bytes, the price and the four lists l of a statement it answers r.
 -- `Holds` has the five points of document 02; `verdict_of bytes l` is what settling the sheet with lists of these lengths comes to.
 -- Assumes nothing.
+use Rattle.std.specs.Prelude.{Ok, Err}
 use Prim.Native.Nat.{ℕ, ◌≤◌}
 use mathlib.Core.List.{List}
 use mathlib.Core.Logic.{◌↔◌}
@@ -10,7 +11,7 @@ use mathlib.Core.Path.{◌≡◌}
 use lib.IntN.{pos}
 use Rattle.sums.specs.Sums.{sum}
 use Rattle.refusals.specs.declared.Refusal.{Refusal}
-use Rattle.refusals.specs.declared.Verdict.{Verdict}
+use Rattle.refusals.specs.Refusals.{Verdict}
 use Rattle.columns.specs.Columns.{hour_of}
 use Rattle.hour.specs.Signed.{signed_sum}
 use Rattle.hour.specs.Answer.{Lent, bought_in, sold_in, money_in, schedule_in}
@@ -23,15 +24,15 @@ use Rattle.duties.proofs.Checks.{sheet_first, points_decide, all_met, met_possib
 
 module _ (bytes : List ℕ) (price : ℕ) (l : Lent) (r : Verdict) (done : r ≡ check_verdict bytes price l) where
   -- The refusals of the sheet come first, and are those of settling it with lists of these lengths.
-  pub refused_as_settling : (q : Refusal) → verdict_of bytes l ≡ Verdict.Refused q → r ≡ Verdict.Refused q
+  pub refused_as_settling : (q : Refusal) → verdict_of bytes l ≡ Err q → r ≡ Err q
   refused_as_settling = sheet_first bytes price l r done
 
   -- 1. OF A SHEET THAT SETTLES, A STATEMENT IS ACCEPTED EXACTLY IF THE FIVE POINTS HOLD.
-  pub accepted_exactly : verdict_of bytes l ≡ Verdict.Fine → (r ≡ Verdict.Fine) ↔ Holds (hour_of bytes) price l
+  pub accepted_exactly : verdict_of bytes l ≡ Ok tt → (r ≡ Ok tt) ↔ Holds (hour_of bytes) price l
   accepted_exactly = points_decide bytes price l r done
 
   -- WHATEVER IS ACCEPTED:
-  module _ (accepted : r ≡ Verdict.Fine) where
+  module _ (accepted : r ≡ Ok tt) where
     -- 3. Its schedule is possible for what central dispatch has to meet, which their shares leave what it is,
     pub accepted_possible : PossibleFor bytes (dispatch_in bytes) (schedule_in l)
     accepted_possible = met_possible (all_met bytes price l r done accepted)
@@ -50,5 +51,5 @@ module _ (bytes : List ℕ) (price : ℕ) (l : Lent) (r : Verdict) (done : r ≡
 
 -- 2. OUR OWN SETTLEMENT IS ALWAYS ACCEPTED: the price that `settle` returns with number 0, and the lists as it leaves them.
 pub ours_accepted : (bytes : List ℕ) (before after : Lent) (s : Summary) → Settled bytes before after s → s.number ≡ 0
-    → (r : Verdict) → r ≡ check_verdict bytes s.price after → r ≡ Verdict.Fine
+    → (r : Verdict) → r ≡ check_verdict bytes s.price after → r ≡ Ok tt
 ours_accepted = own_lists_lem

@@ -1,5 +1,6 @@
 -- From the promise of `settle` to the laws of the hour: the number returned is that of the first refusal, and where there is none
 -- each cell of the lent lists is the hour's. Assumes nothing.
+use Rattle.std.specs.Prelude.{Ok, Err}
 use Prim.Native.Nat.{ℕ, ◌+◌, ◌*◌, ◌≤◌, ◌<◌}
 use native.Mathlib.Omega.{arith}
 use mathlib.Core.Bool.{Bool}
@@ -9,7 +10,7 @@ use lib.IntN.{pos}
 use Rattle.sums.specs.Sums.{sum, pick}
 use Rattle.sums.specs.Lists.{at}
 use Rattle.sums.proofs.Sums.{sum_eq}
-use Rattle.refusals.specs.declared.Verdict.{Verdict}
+use Rattle.refusals.specs.Refusals.{Verdict}
 use Rattle.merit.specs.Merit.{cost}
 use Rattle.sheet.specs.Reading.{counts_of, read_verdict, read_of}
 use Rattle.columns.specs.Columns.{hour_of}
@@ -34,8 +35,8 @@ use Rattle.refusals.specs.Refusals.{number_of}
 use Rattle.columns.proofs.Numbers.{in_order}
 
 summary_number : (v : Verdict) (s : Sheet) → (summary_of v s).number ≡ number_of v
-summary_number Verdict.Fine s = refl
-summary_number (Verdict.Refused q) s = refl
+summary_number (Ok _) s = refl
+summary_number (Err q) s = refl
 
 -- a sheet that passes is sound
 pub passes_sound : (bytes : List ℕ) → Passes bytes → Sound (hour_of bytes)
@@ -60,11 +61,11 @@ number_is bytes before after r done =
 pub record Hour (bytes : List ℕ) (before after : Lent) (r : Summary) : Type 0 where
   pub done : Settled bytes before after r
   pub passes : Passes bytes
-  pub cover : cover_verdict (hour_of bytes) ≡ Verdict.Fine
-  pub fine : verdict_of bytes before ≡ Verdict.Fine
+  pub cover : cover_verdict (hour_of bytes) ≡ Ok tt
+  pub fine : verdict_of bytes before ≡ Ok tt
 
 module _ {bytes : List ℕ} {before after : Lent} {r : Summary} (h : Hour bytes before after r) where
-  pub summary_is : r ≡ summary_of Verdict.Fine (hour_of bytes)
+  pub summary_is : r ≡ summary_of (Ok tt) (hour_of bytes)
   summary_is = h.done.answered ∙ rw h.fine
 
   pub number_none : r.number ≡ 0

@@ -1,7 +1,7 @@
 -- Words for the duties: the hour that the bytes tell, and what settling hands back in the lent lists. Assumes nothing.
+use Rattle.std.specs.Prelude.{Ok}
 use Rattle.std.specs.Prelude.{ℕ, Bool, not, List, ◌≡◌}
 use Rattle.sums.specs.Lists.{at}
-use Rattle.refusals.specs.declared.Verdict.{Verdict}
 use Rattle.merit.specs.Merit.{Possible, cost}
 use Rattle.sheet.specs.Reading.{read_verdict}
 use Rattle.columns.specs.Columns.{hour_of}
@@ -48,8 +48,8 @@ cost_of bytes q = cost (at (hour_of bytes).offers) (plants_of bytes) q
 
 -- the bytes pass refusals 1 to 9
 pub record Passes (bytes : List ℕ) : Type 0 where
-  pub read : read_verdict bytes ≡ Verdict.Fine
-  pub balance : balance_verdict (hour_of bytes) ≡ Verdict.Fine
+  pub read : read_verdict bytes ≡ Ok tt
+  pub balance : balance_verdict (hour_of bytes) ≡ Ok tt
 
 -- nothing is returned but a number and a place, and the lists are as they were
 pub record Untouched (before after : Lent) (r : Summary) : Type 0 where

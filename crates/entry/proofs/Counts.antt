@@ -1,16 +1,15 @@
 -- A sheet that reading accepts has counts that fit its length. Assumes nothing.
+use Rattle.std.specs.Prelude.{Ok}
 use Prim.Native.Nat.{ℕ}
 use mathlib.Core.List.{List}
 use mathlib.Core.Path.{◌≡◌}
 use Rattle.sums.proofs.Tests.{and_left}
-use Rattle.refusals.specs.declared.Verdict.{Verdict}
 use Rattle.refusals.proofs.Fine.{fine_parts, fine_test}
 use Rattle.sheet.specs.Reading.{counts_of, counts_fit, distances_good, layout_good, checks, read_verdict}
 use Rattle.sheet.specs.Counting.{counting_of}
-use Rattle.sheet.specs.declared.counting.Counting.{Counting}
 use Rattle.sheet.proofs.Counted.{count_fits}
 
-pub accepted_counted : (s : List ℕ) → read_verdict s ≡ Verdict.Fine → counting_of s ≡ Counting.Rows (counts_of s)
+pub accepted_counted : (s : List ℕ) → read_verdict s ≡ Ok tt → counting_of s ≡ Ok (counts_of s)
 unfolding read_verdict layout_good
 accepted_counted s e =
     let all = fine_parts (checks s) e in

@@ -1,6 +1,7 @@
 -- THE ENTRY OF A SETTLED HOUR CAN BE ENTERED, at every hour of the day: no number of it is over what a book takes. What all agents bought
 -- is at most the hour's demand and all contract amounts together, since a retailer buys from its own demand, and a generator what it
 -- sold under contracts and its own import. Assumes nothing.
+use Rattle.std.specs.Prelude.{Ok}
 use Prim.Native.Nat.{ℕ, ◌+◌, ◌-◌, ◌<◌, ◌≤◌, min}
 use native.Mathlib.Omega.{arith}
 use mathlib.Core.Bool.{Bool, true, false, not, cond}
@@ -9,7 +10,6 @@ use mathlib.Core.Path.{◌≡◌, ◌∙◌}
 use borrow.Author.Tests.{lt-ltb, le-leb}
 use Rattle.sums.specs.Sums.{sum, pick}
 use Rattle.sums.proofs.Sums.{sum_le, sum_add, sum_most}
-use Rattle.refusals.specs.declared.Verdict.{Verdict}
 use Rattle.limits.specs.Limits.{most_quantity}
 use Rattle.sheet.specs.Reading.{counts_of, read_verdict, read_of}
 use Rattle.hour.specs.Sheet.{Sheet, agents, contracts, retails}
@@ -27,7 +27,6 @@ use Rattle.columns.proofs.Columns.{sound}
 use Rattle.settle.specs.Settled.{Settled}
 use Rattle.book.specs.Book.{hours, most_energy, most_hour_price, holding, entry_verdict}
 use Rattle.entry.specs.Entry.{most_word, entry_of}
-use Rattle.entry.specs.declared.Entry.{Entry}
 use Rattle.entry.proofs.Sheet.{all_fine, entry_is}
 
 -- ---- what agents bought, one by one and all together
@@ -62,7 +61,7 @@ bought_most s ok b =
       ok.few.contracts,
     )
 
-read_sound : (bytes : List ℕ) → read_verdict bytes ≡ Verdict.Fine → Sound (hour_of bytes)
+read_sound : (bytes : List ℕ) → read_verdict bytes ≡ Ok tt → Sound (hour_of bytes)
 unfolding read_of hour_of
 read_sound bytes e = sound bytes (counts_of bytes) (rw e)
 
@@ -79,7 +78,7 @@ module _ (bytes : List ℕ) (before after : Lent) (r : Summary) (done : Settled 
 
   -- the entry is the sheet's own demand, losses, bought kWh and price
   pub entry_true : entry_of bytes r after.figures
-      ≡ Entry.Hour (holding (hour_demand hour) (losses hour) (sum (agents hour) (bought hour)) (bolsa_price hour))
+      ≡ Ok (holding (hour_demand hour) (losses hour) (sum (agents hour) (bought hour)) (bolsa_price hour))
   entry_true =
       let most = bought_most hour hour_sound hour_balanced in
       let e : min (sum (agents hour) (bought hour)) most_word ≡ sum (agents hour) (bought hour) = omega arith in
@@ -88,7 +87,7 @@ module _ (bytes : List ℕ) (before after : Lent) (r : Summary) (done : Settled 
   -- and a book takes it
   pub entry_enters : (h : ℕ)
       → h < hours
-      → entry_verdict h (hour_demand hour) (losses hour) (sum (agents hour) (bought hour)) (bolsa_price hour) ≡ Verdict.Fine
+      → entry_verdict h (hour_demand hour) (losses hour) (sum (agents hour) (bought hour)) (bolsa_price hour) ≡ Ok tt
   entry_enters h l =
       let d : hour_demand hour ≤ most_energy = omega (arith, demand_most hour hour_sound hour_balanced) in
       let o : losses hour ≤ most_energy = omega (arith, losses_le hour hour_sound) in

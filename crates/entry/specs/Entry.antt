@@ -1,19 +1,21 @@
 -- Document 02, P8: what a day's book holds of a settled hour, from its sheet, the summary and the agents' figures. Assumes nothing.
+use Rattle.std.specs.Prelude.{Result, Ok, Err}
+use Rattle.sheet.specs.declared.Counts.{Counts}
+use Rattle.refusals.specs.declared.Refusal.{Refusal}
+use Rattle.book.specs.declared.Place.{Place}
 use Rattle.std.specs.Prelude.{ℕ, ◌+◌, ◌*◌, min, cond, List, eqb}
 use Rattle.sums.specs.Sums.{sum}
 use Rattle.sums.specs.Lists.{at}
 use Rattle.refusals.specs.Refusals.{refusal}
 use Rattle.sheet.specs.Counting.{counting_of}
-use Rattle.sheet.specs.declared.counting.Counting.{Counting}
 use Rattle.hour.specs.Lines.{cells_per_agent}
 use Rattle.hour.specs.declared.Summary.{Summary}
 use Rattle.book.specs.Book.{holding}
-use Rattle.entry.specs.declared.Entry.{Entry}
 
 -- the agents of a sheet whose rows are counted; none where they can't be
-abbrev pub agents_counted : Counting → ℕ
-agents_counted (Counting.Rows c) = c.agents
-agents_counted (Counting.Refused r) = 0
+abbrev pub agents_counted : Result Counts Refusal → ℕ
+agents_counted (Ok c) = c.agents
+agents_counted (Err r) = 0
 
 -- what n agents bought: the fifth of each one's cells
 unfoldable pub bought_in_all : List ℕ → ℕ → ℕ
@@ -24,9 +26,9 @@ abbrev pub most_word : ℕ
 most_word = 4294967295
 
 -- the entry of an hour: its numbers where it is settled, the refusal where it is refused
-abbrev pub entry_of : (sheet : List ℕ) → Summary → (figures : List ℕ) → Entry
+abbrev pub entry_of : (sheet : List ℕ) → Summary → (figures : List ℕ) → Result Place Refusal
 entry_of sheet r figures =
     cond (eqb r.number 0)
-    (Entry.Hour (holding r.demand r.losses (min (bought_in_all figures (agents_counted (counting_of sheet))) most_word)
+    (Ok (holding r.demand r.losses (min (bought_in_all figures (agents_counted (counting_of sheet))) most_word)
     r.price))
-    (Entry.Refused (refusal r.number r.place))
+    (Err (refusal r.number r.place))

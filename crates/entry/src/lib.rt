@@ -10,24 +10,15 @@ ghost use Rattle.entry.specs.Entry.{agents_counted, bought_in_all, most_word, en
 use book::Place;
 use hour::Summary;
 use refusals::Refusal;
-use sheet::counting::Counting;
-use sums::wide;
-
-// What is entered of a settled hour; a refused hour has nothing to enter.
-#[derive(Clone, Copy)]
-pub enum Entry {
-    Hour(Place),
-    Refused(Refusal),
-}
 
 // How many agents the sheet has.
+#[tactic(auto, using(sheet::proofs::Counted::rows_counted))]
 fn agents_in(sheet: &[u8]) -> usize
     ensures { (result ≡ agents_counted (counting_of sheet.now)) × (result ≤ most_agents) }
 {
-    let rows = sheet::counting::count_rows(sheet);
-    match rows {
-        Counting::Rows(c) => c.agents,
-        Counting::Refused(_) => 0,
+    match sheet::counting::count_rows(sheet) {
+        Ok(c) => c.agents,
+        Err(_) => 0,
     }
 }
 
@@ -35,7 +26,7 @@ fn agents_in(sheet: &[u8]) -> usize
 fn cell(figures: &[u32], k: usize) -> u32
     ensures { result ≡ at figures.now k }
 {
-    if k < figures.len() { figures[k] } else { 0 }
+    figures.get(k).copied().unwrap_or(0)
 }
 
 // What the first n agents bought: the fifth of each one's six cells.
@@ -44,10 +35,8 @@ fn all_bought(figures: &[u32], n: usize) -> u64
     ensures { result ≡ bought_in_all figures.now n }
 {
     let mut sum: u64 = 0;
-    let mut a: usize = 0;
-    while a < n {
-        sum += wide(cell(figures, 6 * a + 4));
-        a += 1;
+    for a in 0..n {
+        sum += u64::from(cell(figures, 6 * a + 4));
     }
     sum
 }
@@ -56,16 +45,17 @@ fn all_bought(figures: &[u32], n: usize) -> u64
 fn narrow(x: u64) -> u32
     ensures { result ≡ min x most_word }
 {
-    if x < 4294967295 { x as u32 } else { 4294967295 }
+    u32::try_from(x).unwrap_or(u32::MAX)
 }
 
 // The entry of an hour, from its sheet, the summary that `settle` answered for it, and the figures that `settle` left.
-pub fn entry_of(sheet: &[u8], summary: Summary, figures: &[u32]) -> Entry
+pub fn entry_of(sheet: &[u8], summary: Summary, figures: &[u32]) -> Result<Place, Refusal>
     ensures { result ≡ entry_of sheet.now summary figures.now }
 {
+    // the C interface tells the summary by its number, 0 for a settled hour: `Summary` is flat
     if summary.number == 0 {
         let bought = narrow(all_bought(figures, agents_in(sheet)));
-        Entry::Hour(Place {
+        Ok(Place {
             held: true,
             demand: summary.demand,
             losses: summary.losses,
@@ -73,7 +63,7 @@ pub fn entry_of(sheet: &[u8], summary: Summary, figures: &[u32]) -> Entry
             price: summary.price,
         })
     } else {
-        Entry::Refused(Refusal {
+        Err(Refusal {
             number: summary.number,
             place: summary.place,
         })

@@ -1,23 +1,20 @@
 -- The verdict that the code comes to is the hour's, and of an hour that nothing turns away what was weighed is the sheet's.
 -- Assumes nothing.
-use Prim.Native.Nat.{ℕ, ◌*◌, ◌/◌, ◌≤◌, ◌<◌}
+use Rattle.std.specs.Prelude.{Result, Ok, Err}
+use Prim.Native.Nat.{ℕ}
 use native.Mathlib.Omega.{arith}
-use native.Mathlib.Decide.{dec_lt}
 use mathlib.Core.Bool.{Bool, true, false}
 use mathlib.Core.List.{List, [], ◌∷◌}
 use mathlib.Core.Path.{◌≡◌, refl, ◌∙◌, sym}
-use lib.Dec.{leb}
 use lib.ListN.{length}
-use borrow.Author.Tests.{le-leb, lt-leb}
 use Rattle.sums.specs.Sums.{sum}
 use Rattle.sums.specs.Lists.{at}
-use Rattle.refusals.specs.Refusals.{uncovered, overrun, no_room, refused, refused_unless, or_else, number_of}
+use Rattle.refusals.specs.Refusals.{no_room, refused_unless, or_else, number_of}
 use Rattle.refusals.specs.declared.Refusal.{Refusal}
-use Rattle.refusals.specs.declared.Verdict.{Verdict}
-use Rattle.refusals.proofs.Fine.{fine_parts, fine_test, not_fine}
+use Rattle.refusals.specs.Refusals.{Verdict}
+use Rattle.refusals.proofs.Fine.{fine_parts, fine_test}
 use Rattle.sheet.specs.Reading.{read_of}
 use Rattle.sheet.specs.declared.Counts.{Counts}
-use Rattle.sheet.specs.declared.Reading.{Reading}
 use Rattle.sheet.proofs.Accepted.{accepted_fine}
 use Rattle.columns.specs.Columns.{columns_of, sheet_verdict}
 use Rattle.columns.proofs.Columns.{agents_long, plants_long, contracts_long, hour_is}
@@ -25,84 +22,58 @@ use Rattle.columns.proofs.Numbers.{balance_between, cover_between}
 use Rattle.columns.proofs.Refusing.{none_of, or_none}
 use Rattle.hour.specs.Sheet.{Sheet, plants}
 use Rattle.hour.specs.Balance.{dispatch_demand}
-use Rattle.hour.specs.Lines.{cells_per_agent}
 use Rattle.hour.specs.Answer.{Lent, Roomy, balance_verdict, cover_verdict, room_verdict, hour_verdict}
 use Rattle.hour.proofs.Verdicts.{Covers, covered}
 use Rattle.hour.proofs.Verdicts as verdicts
-use Rattle.balance.specs.Balances.{Ledger, Weighing}
+use Rattle.balance.specs.Balances.{Ledger, Weighing, weighed}
+use Rattle.balance.proofs.Weighed.{refused}
 use Rattle.balance.specs.declared.Weight.{Weight}
 use Rattle.ground.specs.Ground.{admission_with}
-use Rattle.ground.specs.Parts.{roomy, late_verdict, refused_weight}
+use Rattle.ground.specs.Parts.{roomy, late_verdict}
 
--- ---- the ways out of the judgement
-module _ (d a m : ℕ) (room : Bool) where
-  pub late_10 : a < d → late_verdict d a m room ≡ refused uncovered 0
-  late_10 l = rw (lt-leb d a l)
+-- ---- what weighing told, and of what verdict
+weighed_err : (h : Sheet) (v : Verdict) (q : Refusal) → weighed v h ≡ Err q → v ≡ Err q
+weighed_err h (Ok tt) q e = cc
+weighed_err h (Err p) q e = cc
 
-  module _ (l : d ≤ a) where
-    pub late_13 : d < m → late_verdict d a m room ≡ refused overrun 0
-    late_13 h = rw (le-leb d a l, lt-leb m d h)
-
-    module _ (h : m ≤ d) where
-      pub late_11 : room ≡ false → late_verdict d a m room ≡ refused no_room 0
-      late_11 r = rw (le-leb d a l, le-leb m d h, r)
-
-      pub late_fine : room ≡ true → late_verdict d a m room ≡ Verdict.Fine
-      late_fine r = rw (le-leb d a l, le-leb m d h, r)
-
--- ---- as many agents as the figures have cells for
-pub figures_fit : (n f : ℕ) → leb n (f / cells_per_agent) ≡ leb (cells_per_agent * n) f
-figures_fit n f = go (dec_lt f (cells_per_agent * n))
-  where
-    go : Dec (f < cells_per_agent * n) → leb n (f / cells_per_agent) ≡ leb (cells_per_agent * n) f
-    go (yes l) = lt-leb n (f / cells_per_agent) (omega arith) ∙ sym (lt-leb (cells_per_agent * n) f l)
-    go (no l) = le-leb n (f / cells_per_agent) (omega arith) ∙ sym (le-leb (cells_per_agent * n) f (omega arith))
+weighed_ok : (h : Sheet) (v : Verdict) (x : Weight) → weighed v h ≡ Ok x → (v ≡ Ok tt) × (x.target ≡ dispatch_demand h)
+weighed_ok h (Ok tt) x e = (refl, cc)
+weighed_ok h (Err p) x e = cc
 
 module _ (h : Sheet) (room : Bool) where
   -- ---- behind the balance refusals 10, 13 and 11 by the sheet's own demand, from what weighing told and what the plants offer
-  module _ (before after : Ledger) (r : Weight) (w : Weighing (balance_verdict h) h before after r) where
+  module _ (before after : Ledger) (r : Result Weight Refusal) (w : Weighing (balance_verdict h) h before after r) where
     -- weighing's own refusal stands
-    pub refused_weighing : (q : Refusal) → r.verdict ≡ Verdict.Refused q → Weighing (admission_with h room) h before after r
+    pub refused_weighing : (q : Refusal) (r' : Result Weight Refusal) → r ≡ Err q → r' ≡ Err q
+        → Weighing (admission_with h room) h before after r'
     unfolding admission_with
-    refused_weighing q e = let v : balance_verdict h ≡ Verdict.Refused q = sym w.answer ∙ e in rw v (rw v at w)
+    refused_weighing q r' e f =
+        let v : balance_verdict h ≡ Err q = weighed_err h _ _ (sym w.answer ∙ e) in
+        refused h (admission_with h room) q before after r' (rw v) f
 
-    module _ (fine : r.verdict ≡ Verdict.Fine) where
-      balance : balance_verdict h ≡ Verdict.Fine
-      balance = sym w.answer ∙ fine
+    module _ (x : Weight) (fine : r ≡ Ok x) where
+      balance : balance_verdict h ≡ Ok tt
+      balance = (weighed_ok h _ _ (sym w.answer ∙ fine)).0
 
       pub verdict_is : (a m : ℕ)
           → a ≡ sum (plants h) (at h.available)
           → m ≡ sum (plants h) (at h.must_run)
-          → late_verdict r.target a m room ≡ admission_with h room
+          → late_verdict x.target a m room ≡ admission_with h room
       unfolding admission_with cover_verdict
       verdict_is a m ea em =
-          let d : r.target ≡ dispatch_demand h = rw balance at w.target in
+          let d : x.target ≡ dispatch_demand h = (weighed_ok h _ _ (sym w.answer ∙ fine)).1 in
           rw (balance, d, ea, em)
 
-      pub fine_weighing : admission_with h room ≡ Verdict.Fine → Weighing (admission_with h room) h before after r
-      fine_weighing e = rw (e ∙ sym balance) w
-
-  pub late_weighing : (before after : Ledger) (v : Verdict) (q : Refusal)
-      → v ≡ admission_with h room
-      → v ≡ Verdict.Refused q
-      → Weighing (admission_with h room) h before after (refused_weight v)
-  late_weighing before after v q is e =
-      let t : admission_with h room ≡ Verdict.Refused q = sym is ∙ e in
-      record {
-        answer = is;
-        losses = rw t;
-        demand = rw t;
-        target = rw t;
-        columns = λ f. not_fine q (sym t ∙ f);
-      }
+      pub fine_weighing : admission_with h room ≡ Ok tt → Weighing (admission_with h room) h before after (Ok x)
+      fine_weighing e = rw (e ∙ sym balance, sym fine) w
 
   -- ---- what an hour passes that nothing turns away
   pub record Admits : Type 0 where
-    pub balance : balance_verdict h ≡ Verdict.Fine
+    pub balance : balance_verdict h ≡ Ok tt
     pub cover : Covers h
     pub has_room : room ≡ true
 
-  pub admits : admission_with h room ≡ Verdict.Fine → Admits
+  pub admits : admission_with h room ≡ Ok tt → Admits
   unfolding admission_with
   admits fine =
       let tests = fine_parts (balance_verdict h ∷ cover_verdict h ∷ refused_unless room no_room 0 ∷ []) fine in
@@ -113,18 +84,18 @@ module _ (h : Sheet) (room : Bool) where
       }
 
   -- ---- a refusal has a number above 0
-  pub none_told : number_of (admission_with h room) ≡ 0 → admission_with h room ≡ Verdict.Fine
+  pub none_told : number_of (admission_with h room) ≡ 0 → admission_with h room ≡ Ok tt
   unfolding admission_with
   none_told =
-      or_none (balance_verdict h) (or_else (cover_verdict h) (or_else last Verdict.Fine))
+      or_none (balance_verdict h) (or_else (cover_verdict h) (or_else last (Ok tt)))
       (none_of 7 9 (balance_verdict h) (omega arith) (balance_between h))
-      (or_none (cover_verdict h) (or_else last Verdict.Fine) (none_of 10 13 (cover_verdict h) (omega arith) (cover_between h))
-      (or_none last Verdict.Fine (λ e. go room e) (λ e. refl)))
+      (or_none (cover_verdict h) (or_else last (Ok tt)) (none_of 10 13 (cover_verdict h) (omega arith) (cover_between h))
+      (or_none last (Ok tt) (λ e. go room e) (λ e. refl)))
     where
       last : Verdict
       last = refused_unless room no_room 0
 
-      go : (t : Bool) → number_of (refused_unless t no_room 0) ≡ 0 → refused_unless t no_room 0 ≡ Verdict.Fine
+      go : (t : Bool) → number_of (refused_unless t no_room 0) ≡ 0 → refused_unless t no_room 0 ≡ Ok tt
       go true e = refl
       go false e = absurd (omega arith)
 
@@ -143,14 +114,14 @@ module _ (bytes : List ℕ) (c : Counts) (l : Lent) (room : Bool)
   room_there t = verdicts.roomy (columns_of bytes c) l (sym room_told ∙ rw t)
 
 -- and where that is fine they have room
-pub fine_room : (h : Sheet) (l : Lent) → hour_verdict h l ≡ Verdict.Fine → Roomy h l
+pub fine_room : (h : Sheet) (l : Lent) → hour_verdict h l ≡ Ok tt → Roomy h l
 unfolding hour_verdict
 fine_room h l fine =
     verdicts.roomy h l (fine_parts (balance_verdict h ∷ cover_verdict h ∷ room_verdict h l ∷ []) fine).1.1.0
 
 -- ---- with room for every sheet it is the verdict of the bytes alone
 pub admission_all : (bytes : List ℕ) (c : Counts)
-    → read_of bytes ≡ Reading.Accepted c
+    → read_of bytes ≡ Ok c
     → admission_with (columns_of bytes c) true ≡ sheet_verdict bytes
 unfolding admission_with sheet_verdict
 admission_all bytes c e = rw (accepted_fine bytes c e, hour_is bytes c e)

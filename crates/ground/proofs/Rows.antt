@@ -1,5 +1,6 @@
 -- The rows of a plant section are the sheet's plants, in each column; and the front of a list that a column was filled into is the column.
 -- Assumes nothing.
+use Rattle.std.specs.Prelude.{Ok}
 use Prim.Native.Nat.{ℕ, ◌≤◌, ◌<◌}
 use native.Mathlib.Omega.{arith}
 use mathlib.Core.List.{List}
@@ -17,7 +18,6 @@ use Rattle.limits.specs.declared.Plant.{Plant}
 use Rattle.sheet.specs.Reading.{read_of}
 use Rattle.sheet.specs.Asking.{plant_at, section_of}
 use Rattle.sheet.specs.declared.Counts.{Counts}
-use Rattle.sheet.specs.declared.Reading.{Reading}
 use Rattle.sheet.proofs.Accepted.{accepted_plant}
 use Rattle.sheet.proofs.Sections.{plant_row}
 use Rattle.columns.specs.Columns.{columns_of}
@@ -34,7 +34,7 @@ pub record Bounded (p : Plant) : Type 0 where
   pub available : p.availability ≤ most_available
   pub must : p.must ≤ most_available
 
-module _ (s : List ℕ) (c : Counts) (e : read_of s ≡ Reading.Accepted c) (b : List ℕ) (is : b ≡ section_of s c 3) where
+module _ (s : List ℕ) (c : Counts) (e : read_of s ≡ Ok c) (b : List ℕ) (is : b ≡ section_of s c 3) where
   pub plant_is : (j : ℕ) → j < c.plants → plant b j ≡ plant_at s c j
   plant_is j l = ap (λ (x : List ℕ). plant x j) is ∙ ap plant_of (plant_row s c e j l)
 
@@ -74,7 +74,7 @@ pub record Fronts (h : Sheet) (n : ℕ) (f : Fleet) : Type 0 where
   pub available : take n f.available ≡ h.available
 
 pub fronts : (s : List ℕ) (c : Counts)
-    → read_of s ≡ Reading.Accepted c
+    → read_of s ≡ Ok c
     → (before after : Fleet)
     → Wide c.plants before
     → Tabled (columns_of s c) c.plants before after

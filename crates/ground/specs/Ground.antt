@@ -3,7 +3,7 @@
 use Rattle.std.specs.Prelude.{ℕ, Bool, List, [], ◌∷◌, ℤ}
 use Rattle.sums.specs.Lists.{at, Filled}
 use Rattle.refusals.specs.Refusals.{no_room, refused_unless, first_of}
-use Rattle.refusals.specs.declared.Verdict.{Verdict}
+use Rattle.refusals.specs.Refusals.{Verdict}
 use Rattle.hour.specs.Sheet.{Sheet}
 use Rattle.hour.specs.Answer.{lent, balance_verdict, cover_verdict, hour_verdict}
 

@@ -1,11 +1,10 @@
 -- What the parts of admitting a sheet hand on to each other. Assumes nothing.
 use Rattle.std.specs.Prelude.{ℕ, ◌*◌, ◌≤◌, Bool, ◌&&◌, [], ◌∷◌, leb, length}
 use Rattle.refusals.specs.Refusals.{no_room, refused_unless, first_of}
-use Rattle.refusals.specs.declared.Verdict.{Verdict}
+use Rattle.refusals.specs.Refusals.{Verdict}
 use Rattle.sheet.specs.declared.Counts.{Counts}
 use Rattle.hour.specs.Lines.{cells_per_agent}
 use Rattle.hour.specs.Answer.{cover_of}
-use Rattle.balance.specs.declared.Weight.{Weight}
 use Rattle.ground.specs.Ground.{Fleet}
 
 -- lists of these lengths have room
@@ -15,10 +14,6 @@ roomy c f m s t = leb (cells_per_agent * c.agents) f && leb c.agents m && leb c.
 -- refusals 10 and 13, and 11 behind them
 abbrev pub late_verdict : (demand available must_run : ℕ) → Bool → Verdict
 late_verdict d a m room = first_of (cover_of d a m ∷ refused_unless room no_room 0 ∷ [])
-
--- what is told of a refused sheet
-abbrev pub refused_weight : Verdict → Weight
-refused_weight v = record { verdict = v; losses = 0; demand = 0; target = 0 }
 
 -- lists with a cell for each of n plants
 pub record Wide (n : ℕ) (f : Fleet) : Type 0 where

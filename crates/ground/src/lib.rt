@@ -9,13 +9,12 @@ use sheet::Counts;
 pub mod plants;
 
 ghost use Rattle.std.specs.Prelude.{◌≡◌};
-ghost use Rattle.refusals.specs.declared.Verdict.{Verdict};
+ghost use Rattle.refusals.specs.Refusals.{Verdict};
 ghost use Rattle.sheet.specs.Reading.{read_of};
-ghost use Rattle.sheet.specs.declared.Reading.{Reading};
 ghost use Rattle.columns.specs.Columns.{columns_of};
 ghost use Rattle.balance.specs.Balances.{ledger, Weighing};
 ghost use Rattle.ground.specs.Ground.{admission, admission_with};
-ghost use Rattle.ground.specs.Parts.{roomy, late_verdict, refused_weight};
+ghost use Rattle.ground.specs.Parts.{roomy, late_verdict};
 
 // Lists as long as the counts ask for. The figures are divided, not the cells multiplied: no count is too large for that.
 pub fn has_room(c: Counts, figures: usize, money: usize, schedule: usize, amounts: usize) -> bool
@@ -38,20 +37,9 @@ fn late(target: u32, available: u32, must: u32, room: bool) -> Verdict
         return refusals::refuse(Refusal::OVERRUN, 0);
     }
     if room {
-        return Verdict::Fine;
+        return Ok(());
     }
     refusals::refuse(Refusal::ROOM, 0)
-}
-
-fn turned_away(verdict: Verdict) -> Weight
-    ensures { result ≡ refused_weight verdict }
-{
-    Weight {
-        verdict,
-        losses: 0,
-        demand: 0,
-        target: 0,
-    }
 }
 
 // Whether the hour of a sheet that reading accepts with these counts is to be settled: refusals 7 to 9 as weighing has them, then 10, 13
@@ -65,24 +53,17 @@ pub fn admit_with(
     own: &mut [u32; Agent::MOST],
     imports: &mut [u32; Agent::MOST],
     room: bool,
-) -> Weight
-    requires { read_of bytes.now ≡ Reading.Accepted c }
+) -> Result<Weight, Refusal>
+    requires { read_of bytes.now ≡ Ok c }
     ensures { Weighing (admission_with (columns_of bytes.now c) room) (columns_of bytes.now c)
         (ledger kinds.old shares.old commercial.old own.old imports.old)
         (ledger kinds.new shares.new commercial.new own.new imports.new)
         result }
 {
-    let w = balance::weigh_read(bytes, c, kinds, shares, commercial, own, imports);
-    let weighed = w.verdict;
-    let Verdict::Fine = weighed else {
-        return w;
-    };
+    let w = balance::weigh_read(bytes, c, kinds, shares, commercial, own, imports)?;
     let offer = plants::offered(bytes, c);
-    let verdict = late(w.target, offer.available, offer.must, room);
-    let Verdict::Fine = verdict else {
-        return turned_away(verdict);
-    };
-    w
+    late(w.target, offer.available, offer.must, room)?;
+    Ok(w)
 }
 
 // The same for four lists: of these the lengths are looked at, and nothing else.
@@ -98,8 +79,8 @@ pub fn admit(
     money: &[i64],
     schedule: &[u32],
     amounts: &[u32],
-) -> Weight
-    requires { read_of bytes.now ≡ Reading.Accepted c }
+) -> Result<Weight, Refusal>
+    requires { read_of bytes.now ≡ Ok c }
     ensures { Weighing
         (admission (columns_of bytes.now c)
         figures.now money.now schedule.now amounts.now)

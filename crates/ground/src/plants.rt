@@ -3,7 +3,6 @@ ghost use Rattle.std.specs.Prelude.{◌≡◌};
 ghost use Rattle.sums.specs.Sums.{sum};
 ghost use Rattle.sums.specs.Lists.{at};
 ghost use Rattle.sheet.specs.Reading.{read_of};
-ghost use Rattle.sheet.specs.declared.Reading.{Reading};
 ghost use Rattle.columns.specs.Columns.{columns_of};
 ghost use Rattle.hour.specs.Sheet.{plants};
 ghost use Rattle.ground.specs.Ground.{fleet, Tabled};
@@ -20,20 +19,17 @@ pub(crate) struct Reach {
 }
 
 pub(crate) fn offered(bytes: &[u8], c: Counts) -> Reach
-    requires { read_of bytes.now ≡ Reading.Accepted c }
+    requires { read_of bytes.now ≡ Ok c }
     ensures { (result.available ≡ sum (plants (columns_of bytes.now c)) (at (columns_of bytes.now c).available))
         × (result.must ≡ sum (plants (columns_of bytes.now c)) (at (columns_of bytes.now c).must_run)) }
 {
     let section = sheet::asking::section_of(bytes, c, Plant::SECTION);
-    let n = c.plants;
     let mut available = 0;
     let mut must = 0;
-    let mut i = 0;
-    while i < n {
+    for i in 0..c.plants {
         let p = rows::plant_of(octets::row_at(section, i));
         available += p.availability;
         must += p.must;
-        i += 1;
     }
     Reach { available, must }
 }
@@ -48,23 +44,20 @@ fn fill(
     offers: &mut [u32],
     available: &mut [u32],
 )
-    requires bytes_value { read_of bytes.now ≡ Reading.Accepted c }
+    requires bytes_value { read_of bytes.now ≡ Ok c }
     requires wide { Wide c.plants (fleet holders.old flags.old musts.old offers.old available.old) }
     ensures { Tabled (columns_of bytes.now c) c.plants
         (fleet holders.old flags.old musts.old offers.old available.old)
         (fleet holders.new flags.new musts.new offers.new available.new) }
 {
     let section = sheet::asking::section_of(bytes, c, Plant::SECTION);
-    let n = c.plants;
-    let mut i = 0;
-    while i < n {
+    for i in 0..c.plants {
         let p = rows::plant_of(octets::row_at(section, i));
         holders[i] = p.agent;
         flags[i] = p.inflexible;
         musts[i] = p.must;
         offers[i] = p.price;
         available[i] = p.availability;
-        i += 1;
     }
 }
 
@@ -78,7 +71,7 @@ pub fn columns(
     offers: &mut [u32; Plant::MOST],
     available: &mut [u32; Plant::MOST],
 )
-    requires { read_of bytes.now ≡ Reading.Accepted c }
+    requires { read_of bytes.now ≡ Ok c }
     ensures { Tabled (columns_of bytes.now c) c.plants
         (fleet holders.old flags.old musts.old offers.old available.old)
         (fleet holders.new flags.new musts.new offers.new available.new) }

@@ -1,4 +1,5 @@
 -- Duty 3, of an accepted sheet that passes refusals 7 to 9: possible, cheapest and balanced. Assumes nothing.
+use Rattle.std.specs.Prelude.{Ok}
 use Prim.Native.Nat.{ℕ, ◌+◌, ◌-◌, ◌≤◌, ◌<◌}
 use native.Mathlib.Omega.{arith}
 use native.Mathlib.Decide.{dec_lt}
@@ -11,7 +12,6 @@ use Rattle.sums.specs.Lists.{at}
 use Rattle.sums.proofs.Sums.{sum_eq, sum_add}
 use Rattle.sums.proofs.Picks.{pick_false}
 use Rattle.sums.proofs.Keyed.{keyed_absent, keyed_total}
-use Rattle.refusals.specs.declared.Verdict.{Verdict}
 use Rattle.merit.specs.Merit.{Possible, cost}
 use Rattle.merit.proofs.MustRun.{ideal_possible, ideal_least, ideal_none}
 use Rattle.hour.specs.Sheet.{Sheet, agents, plants, contracts, retails, outside}
@@ -52,7 +52,7 @@ module _ (s : Sheet) (ok : Sound s) where
       none : ((a < d) ⊎ (d < m)) ↔ ((q : ℕ → ℕ) → CanDeliver q → ⊥)
       none = ideal_none (at s.offers) (at s.must_run) (at s.available) (plants s) d runs_within
 
-      fine : cover_verdict s ≡ Verdict.Fine → Uncovered s → ⊥
+      fine : cover_verdict s ≡ Ok tt → Uncovered s → ⊥
       fine e (inl h) = not_fine _ (sym h ∙ e)
       fine e (inr h) = not_fine _ (sym h ∙ e)
 
@@ -61,12 +61,12 @@ module _ (s : Sheet) (ok : Sound s) where
       outside h (no l) (yes r) = inr r
       outside h (no l) (no r) = absurd (fine (cover_fine s (omega arith) (omega arith)) h)
 
-      told : (a < d) ⊎ (d < m) → (cover_verdict s ≡ Verdict.Fine) ⊎ Uncovered s → Uncovered s
+      told : (a < d) ⊎ (d < m) → (cover_verdict s ≡ Ok tt) ⊎ Uncovered s → Uncovered s
       told h (inr u) = u
       told (inl h) (inl e) = absurd (omega (arith, (covered s e).enough))
       told (inr h) (inl e) = absurd (omega (arith, (covered s e).runs))
 
-  module _ (fine : cover_verdict s ≡ Verdict.Fine) where
+  module _ (fine : cover_verdict s ≡ Ok tt) where
     -- the schedule is possible
     pub schedule_possible : CanDeliver (scheduled s)
     unfolding scheduled
@@ -259,7 +259,7 @@ module _ (s : Sheet) (ok : Sound s) where
   unfolding own
   own_all = own_by_all s ok (basis_of s) generator_demand
 
-  module _ (fine : cover_verdict s ≡ Verdict.Fine) where
+  module _ (fine : cover_verdict s ≡ Ok tt) where
     -- the schedules sum to the hour's demand less small generators' exports
     pub schedule_met : sum (plants s) (scheduled s) ≡ dispatch_demand s
     schedule_met = (schedule_possible s ok fine).meets

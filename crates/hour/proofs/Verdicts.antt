@@ -1,4 +1,5 @@
 -- Refusals 7 to 10, 13 and 11: what each answer says of the sheet, and the answer in each case. Assumes nothing.
+use Rattle.std.specs.Prelude.{Ok}
 use Prim.Native.Nat.{ℕ, ◌*◌, ◌≤◌, ◌<◌}
 use native.Mathlib.Omega.{arith}
 use native.Mathlib.Decide.{dec_lt}
@@ -14,7 +15,7 @@ use Rattle.sums.specs.Lists.{at}
 use Rattle.sums.proofs.First.{first_below}
 use Rattle.sums.proofs.Tests.{all_true, or_cases}
 use Rattle.refusals.specs.Refusals.{bad_exports, bad_gain, unshared, uncovered, overrun, no_room, refused, refused_unless}
-use Rattle.refusals.specs.declared.Verdict.{Verdict}
+use Rattle.refusals.specs.Refusals.{Verdict}
 use Rattle.hour.specs.Sheet.{Sheet, agents, plants, contracts, retails}
 use Rattle.hour.specs.Balance.{imported, exported, consumed, entering, leaving, losses, dispatch_demand}
 use Rattle.hour.specs.Lines.{cells_per_agent}
@@ -35,7 +36,7 @@ tests s =
     ∷ []
 
 module _ (s : Sheet) where
-  pub balanced : balance_verdict s ≡ Verdict.Fine → Balanced s
+  pub balanced : balance_verdict s ≡ Ok tt → Balanced s
   unfolding balance_verdict first_over
   balanced h =
       let all = fine_parts (tests s) h in
@@ -71,7 +72,7 @@ module _ (s : Sheet) where
       unfolding balance_verdict
       balance_9 h = simp (le-leb _ _ a, le-leb _ _ b, h)
 
-      pub balance_fine : (eqb (losses s) 0 || ltb 0 (consumed s)) ≡ true → balance_verdict s ≡ Verdict.Fine
+      pub balance_fine : (eqb (losses s) 0 || ltb 0 (consumed s)) ≡ true → balance_verdict s ≡ Ok tt
       unfolding balance_verdict
       balance_fine h = simp (le-leb _ _ a, le-leb _ _ b, h)
 
@@ -80,7 +81,7 @@ module _ (s : Sheet) where
     pub enough : dispatch_demand s ≤ sum (plants s) (at s.available)
     pub runs : sum (plants s) (at s.must_run) ≤ dispatch_demand s
 
-  pub covered : cover_verdict s ≡ Verdict.Fine → Covers
+  pub covered : cover_verdict s ≡ Ok tt → Covers
   unfolding cover_verdict
   covered h =
       let all =
@@ -100,7 +101,7 @@ module _ (s : Sheet) where
     unfolding cover_verdict
     cover_13 h = simp (le-leb _ _ enough, lt-leb _ _ h)
 
-    pub cover_fine : sum (plants s) (at s.must_run) ≤ dispatch_demand s → cover_verdict s ≡ Verdict.Fine
+    pub cover_fine : sum (plants s) (at s.must_run) ≤ dispatch_demand s → cover_verdict s ≡ Ok tt
     unfolding cover_verdict
     cover_fine h = simp (le-leb _ _ enough, le-leb _ _ h)
 
@@ -108,21 +109,21 @@ module _ (s : Sheet) where
   abbrev pub Uncovered : Type 0
   Uncovered = (cover_verdict s ≡ refused uncovered 0) ⊎ (cover_verdict s ≡ refused overrun 0)
 
-  pub cover_told : (cover_verdict s ≡ Verdict.Fine) ⊎ Uncovered
+  pub cover_told : (cover_verdict s ≡ Ok tt) ⊎ Uncovered
   cover_told =
       go (dec_lt (sum (plants s) (at s.available)) (dispatch_demand s))
       (dec_lt (dispatch_demand s) (sum (plants s) (at s.must_run)))
     where
       go : Dec (sum (plants s) (at s.available) < dispatch_demand s)
           → Dec (dispatch_demand s < sum (plants s) (at s.must_run))
-          → (cover_verdict s ≡ Verdict.Fine) ⊎ Uncovered
+          → (cover_verdict s ≡ Ok tt) ⊎ Uncovered
       go (yes l) k = inr (inl (cover_10 l))
       go (no l) (yes k) = inr (inr (cover_13 (omega arith) k))
       go (no l) (no k) = inl (cover_fine (omega arith) (omega arith))
 
 -- ---- refusal 11
 module _ (s : Sheet) (l : Lent) where
-  pub roomy : room_verdict s l ≡ Verdict.Fine → Roomy s l
+  pub roomy : room_verdict s l ≡ Ok tt → Roomy s l
   unfolding room_verdict
   roomy h =
       let all =
@@ -136,6 +137,6 @@ module _ (s : Sheet) (l : Lent) where
         amounts = leb-true _ _ all.1.1.1.0;
       }
 
-  pub room_fine : Roomy s l → room_verdict s l ≡ Verdict.Fine
+  pub room_fine : Roomy s l → room_verdict s l ≡ Ok tt
   unfolding room_verdict
   room_fine r = simp (le-leb _ _ r.figures, le-leb _ _ r.money, le-leb _ _ r.schedule, le-leb _ _ r.amounts)

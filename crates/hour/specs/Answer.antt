@@ -1,10 +1,11 @@
 -- Document 01, 'When the sheet is turned away', of an accepted sheet and the four lent lists: refusals 7 to 10, 13 and 11,
 -- in this order. Assumes nothing.
+use Rattle.std.specs.Prelude.{Ok, Err}
 use Rattle.std.specs.Prelude.{ℕ, ◌+◌, ◌*◌, ◌≤◌, ◌&&◌, ◌||◌, List, [], ◌∷◌, ℤ, pos, length, get_or, ltb, leb, eqb}
 use Rattle.sums.specs.Sums.{sum, first}
 use Rattle.sums.specs.Lists.{at}
 use Rattle.refusals.specs.Refusals.{bad_exports, bad_gain, unshared, uncovered, overrun, no_room, refused_unless, first_of}
-use Rattle.refusals.specs.declared.Verdict.{Verdict}
+use Rattle.refusals.specs.Refusals.{Verdict}
 use Rattle.hour.specs.Sheet.{Sheet, agents, plants, contracts, retails}
 use Rattle.hour.specs.Balance.{imported, exported, consumed, entering, leaving, losses, hour_demand, dispatch_demand}
 use Rattle.hour.specs.Lines.{bolsa_price, cells_per_agent}
@@ -88,6 +89,6 @@ hour_verdict s l = first_of (balance_verdict s ∷ cover_verdict s ∷ room_verd
 
 -- a settled hour has number 0 and place 0; a refusal has price, demand and losses 0
 abbrev pub summary_of : Verdict → Sheet → Summary
-summary_of Verdict.Fine s =
+summary_of (Ok tt) s =
     record { number = 0; place = 0; price = bolsa_price s; demand = hour_demand s; losses = losses s }
-summary_of (Verdict.Refused r) s = record { number = r.number; place = r.place; price = 0; demand = 0; losses = 0 }
+summary_of (Err r) s = record { number = r.number; place = r.place; price = 0; demand = 0; losses = 0 }

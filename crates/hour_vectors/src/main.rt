@@ -2,88 +2,70 @@
 // A case is a 32-bit length, the low byte first, and that many bytes.
 #![tactic(auto)]
 
-ghost use Rattle.std.specs.Prelude.{◌*◌, ◌≤◌, length};
-ghost use Rattle.limits.specs.Limits.{most_agents, most_plants, most_contracts};
-ghost use Rattle.hour_vectors.specs.Cases.{RowsFit};
+ghost use Rattle.std.specs.Prelude.{◌≤◌, length};
+ghost use Rattle.limits.specs.Limits.{most_agents};
 
 use hour::Summary;
-use input::cases::Case;
+use input::cases::{Broken, Case};
 use limits::{Agent, Contract, Plant};
-use printing::Printed;
-use sheet::{Counts, Reading};
 use std::io;
 
 // More cases than these are not looked at.
 const MOST_CASES: u64 = 1000000;
 
-fn print_first<P: Print>(rt: &P, list: &[u32], n: usize) -> io::Result<()>
-    requires { n ≤ length list.now }
-{
-    for x in &list[..n] {
+fn print_list<P: Print>(rt: &P, list: &[u32]) -> io::Result<()> {
+    for x in list {
         print!(rt; " {x}")?;
     }
     rt.print("\n")
 }
 
 // Every sixth figure is a loss share.
-fn print_shares<P: Print>(rt: &P, figures: &[u32], n: usize) -> io::Result<()>
-    requires { (n ≤ most_agents) × (6 * n ≤ length figures.now) }
-{
-    for a in 0..n {
-        print!(rt; " {}", figures[6 * a])?;
+fn print_shares<P: Print>(rt: &P, figures: &[u32]) -> io::Result<()> {
+    for share in figures.iter().step_by(Agent::CELLS) {
+        print!(rt; " {share}")?;
     }
     rt.print("\n")
 }
 
-fn fill_kinds(bytes: &[u8], n: usize, kinds: &mut [u32])
-    requires { n ≤ length kinds.old }
-{
-    for a in 0..n {
-        kinds[a] = rows::agent_of(octets::row_at(bytes, a)).kind;
+fn fill_kinds(bytes: &[u8], kinds: &mut [u32]) {
+    for (a, kind) in kinds.iter_mut().enumerate() {
+        *kind = rows::agent_of(octets::row_at(bytes, a)).kind;
     }
 }
 
-// The page of the desk program: the hour with a line for each of n agents, or the refusal.
+// The page of the desk program: the hour with a line for each agent, or the refusal.
 fn print_page<P: Print>(
     rt: &P,
     s: Summary,
     bytes: &[u8],
-    n: usize,
     figures: &[u32],
     money: &[i64],
 ) -> io::Result<()>
-    requires { (n ≤ most_agents) × (6 * n ≤ length figures.now) × (n ≤ length money.now) }
+    requires { length money.now ≤ most_agents }
 {
-    let mut kinds = [0u32; Agent::MOST];
-    fill_kinds(bytes, n, &mut kinds);
-    let cells = 6 * n;
+    let mut all = [0u32; Agent::MOST];
+    let kinds = &mut all[..money.len()];
+    fill_kinds(bytes, kinds);
     let mut page = [0u8; 65536];
-    let printed = printing::print(s, &kinds[..n], &figures[..cells], &money[..n], &mut page);
-    let Printed::Done(k) = printed else {
-        return Ok(());
-    };
-    if k <= page.len() {
-        rt.write_all(&page[..k])?;
+    match printing::print(s, kinds, figures, money, &mut page) {
+        Ok(k) if k <= page.len() => rt.write_all(&page[..k]),
+        _ => Ok(()),
     }
-    Ok(())
 }
 
 fn print_lists<P: Print>(
     rt: &P,
-    c: Counts,
     figures: &[u32],
     schedule: &[u32],
     amounts: &[u32],
-) -> io::Result<()>
-    requires { RowsFit c × (6 * most_agents ≤ length figures.now) × (most_plants ≤ length schedule.now)
-        × (most_contracts ≤ length amounts.now) }
-{
+) -> io::Result<()> {
     rt.print("shares")?;
-    print_shares(rt, figures, c.agents)?;
+    print_shares(rt, figures)?;
     rt.print("schedule")?;
-    print_first(rt, schedule, c.plants)?;
+    print_list(rt, schedule)?;
     rt.print("amounts")?;
-    print_first(rt, amounts, c.contracts)
+    print_list(rt, amounts)
 }
 
 // Settles one sheet and prints the answer.
@@ -94,24 +76,24 @@ fn run_case<P: Print>(rt: &P, bytes: &[u8]) -> io::Result<()> {
     let mut amounts = [0u32; Contract::MOST];
     let s = settle::settle(bytes, &mut figures, &mut money, &mut schedule, &mut amounts);
     if 0 < s.number {
-        return print_page(rt, s, bytes, 0, &figures, &money);
+        return print_page(rt, s, bytes, &[], &[]);
     }
-    let reading = sheet::read(bytes);
-    let Reading::Accepted(c) = reading else {
+    let Ok(c) = sheet::read(bytes) else {
         return Ok(());
     };
-    print_page(rt, s, bytes, c.agents, &figures, &money)?;
-    print_lists(rt, c, &figures, &schedule, &amounts)
+    let figures = &figures[..Agent::CELLS * c.agents];
+    print_page(rt, s, bytes, figures, &money[..c.agents])?;
+    print_lists(rt, figures, &schedule[..c.plants], &amounts[..c.contracts])
 }
 
 // Tells on standard error why there is no further case, unless the input just ended.
 fn complain<E: Eprint>(rt: &E, case: Case) {
     let _ = match case {
-        Case::Cut => rt.eprint(
+        Err(Broken::Cut) => rt.eprint(
             "hour_vectors: the input ends within a case, or a case is longer than 65536 bytes\n",
         ),
-        Case::Failed(why) => eprint!(rt; "hour_vectors: the input cannot be read: {why}\n"),
-        _ => Ok(()),
+        Err(Broken::Failed(why)) => eprint!(rt; "hour_vectors: the input cannot be read: {why}\n"),
+        Ok(_) => Ok(()),
     };
 }
 
@@ -120,7 +102,7 @@ fn main(rt: HostRuntime) -> io::Result<()> {
     let mut from = rt.reader();
     for number in 0..MOST_CASES {
         let case = input::cases::read_case(&mut from, &mut buf);
-        let Case::Sheet(n) = case else {
+        let Ok(Some(n)) = case else {
             complain(&rt, case);
             break;
         };

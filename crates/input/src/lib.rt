@@ -6,46 +6,34 @@ ghost use Rattle.input.specs.Input.{Within, Taken};
 
 use std::io::{Error, ErrorKind, Read};
 use std::rt::Files;
-use std::{fs, str};
+use std::{fs, io, str};
 
 pub mod cases;
 
-// How many bytes of the buffer the input has filled, or why a read failed.
-#[derive(Clone, Copy)]
-pub enum Input {
-    Bytes(usize),
-    Failed(Error),
-}
-
-// What an open input has, piece by piece, until it ends or the buffer is full.
-pub fn read_all<R: Read>(from: &mut R, buf: &mut [u8]) -> Input
+// What an open input has, piece by piece, until it ends or the buffer is full: how many bytes it has filled, or why a read failed.
+pub fn read_all<R: Read>(from: &mut R, buf: &mut [u8]) -> io::Result<usize>
     ensures within { Within result (length buf.new) }
     ensures bytes { Taken (R.remaining from.old) (R.remaining from.new) result buf.new }
 {
     let mut n = 0;
+    // A piece has any size that the input gives it, so the loop counts bytes and not turns.
     while n < buf.len() {
-        let got = from.read(&mut buf[n..]);
-        let more = match got {
-            Ok(more) => more,
-            Err(why) => return Input::Failed(why),
-        };
+        let more = from.read(&mut buf[n..])?;
         if more == 0 {
-            return Input::Bytes(n);
+            break;
         }
         n += more;
     }
-    Input::Bytes(n)
+    Ok(n)
 }
 
 // The file of that name, until it ends or the buffer is full.
-pub fn read_file<R: Files>(rt: &R, path: &[u8], buf: &mut [u8]) -> Input
+pub fn read_file<R: Files>(rt: &R, path: &[u8], buf: &mut [u8]) -> io::Result<usize>
     ensures { Within result (length buf.new) }
 {
     let Ok(name) = str::from_utf8(path) else {
-        return Input::Failed(Error::from(ErrorKind::InvalidFilename));
+        return Err(Error::from(ErrorKind::InvalidFilename));
     };
-    match fs::open(rt, name) {
-        Ok(mut file) => read_all(&mut file, buf),
-        Err(why) => Input::Failed(why),
-    }
+    let mut file = fs::open(rt, name)?;
+    read_all(&mut file, buf)
 }

@@ -4,6 +4,8 @@
 ghost use Rattle.std.specs.Prelude.{◌≡◌, leb};
 ghost use Rattle.limits.specs.Limits.{most_factor, most_reading, most_offer, most_available, most_price, most_quantity, few_rows};
 
+// Kinds and sections are numbers and no enums: a row says any number (`rows::agent_of` answers for each), and a section is asked for by
+// any number (`sheet::asking::ask_row`).
 #[derive(Clone, Copy)]
 pub struct Agent {
     pub kind: u32,

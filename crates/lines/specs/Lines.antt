@@ -1,5 +1,5 @@
 -- An agent's line, from its kind and what it has, and the lines of all agents, from their columns. Assumes nothing.
-use Rattle.std.specs.Prelude.{ℕ, ◌+◌, ◌-◌, ◌/◌, ◌%◌, cond, List, ℤ, set}
+use Rattle.std.specs.Prelude.{ℕ, ◌+◌, ◌-◌, ◌/◌, ◌%◌, cond, List, ℤ}
 use Rattle.sums.specs.Lists.{at}
 use Rattle.rows.specs.Rows.{carries_losses}
 use Rattle.hour.specs.Lines.{money_of, cells_per_agent, cell_of}
@@ -20,7 +20,3 @@ line_cell ks ss os is cs k =
 abbrev pub line_money : (kinds own imports contracted : List ℕ) → ℕ → ℕ → ℤ
 line_money ks os is cs price a =
     money_of (sells (at ks a) (at os a) (at cs a)) (buys (at ks a) (at os a) (at is a) (at cs a)) price
-
--- the cells of one agent put into the figures, from k on
-abbrev pub line_set : List ℕ → (k share own import contracted bought sold : ℕ) → List ℕ
-line_set l k s o i c b v = set (set (set (set (set (set l k s) (k + 1) o) (k + 2) i) (k + 3) c) (k + 4) b) (k + 5) v

@@ -6,7 +6,7 @@ ghost use Rattle.std.specs.Prelude.{◌≡◌, ℕ, ◌+◌, ◌*◌, ◌≤◌,
 ghost use Rattle.sums.specs.Lists.{at, Filled};
 ghost use Rattle.limits.specs.Limits.{most_agents, most_offer};
 ghost use Rattle.hour.specs.Lines.{money_of, cells_per_agent};
-ghost use Rattle.lines.specs.Lines.{buys, sells, line_set, line_cell, line_money};
+ghost use Rattle.lines.specs.Lines.{buys, sells, line_cell, line_money};
 
 use limits::{Agent, Plant};
 
@@ -15,9 +15,9 @@ pub fn bought(kind: u32, own: u32, import: u32, contracted: u32) -> u64
     ensures { result ≡ buys kind own import contracted }
 {
     if rows::carries_losses(kind) {
-        sums::wide(sums::less(own, contracted))
+        u64::from(own.saturating_sub(contracted))
     } else {
-        sums::wide(sums::less(contracted, own)) + sums::wide(import)
+        u64::from(contracted.saturating_sub(own)) + u64::from(import)
     }
 }
 
@@ -26,9 +26,9 @@ pub fn sold(kind: u32, own: u32, contracted: u32) -> u32
     ensures { result ≡ sells kind own contracted }
 {
     if rows::carries_losses(kind) {
-        sums::less(contracted, own)
+        contracted.saturating_sub(own)
     } else {
-        sums::less(own, contracted)
+        own.saturating_sub(contracted)
     }
 }
 
@@ -36,30 +36,7 @@ pub fn sold(kind: u32, own: u32, contracted: u32) -> u32
 pub fn owed(sold: u32, bought: u32, price: u32) -> i64
     ensures { result ≡ money_of sold bought (min price most_offer) }
 {
-    let centavos = sums::least(price, Plant::OFFER);
-    (sold as i64 - bought as i64) * centavos as i64
-}
-
-// The cells of one agent in the figures, from k on.
-fn write_line(
-    k: usize,
-    share: u32,
-    own: u32,
-    import: u32,
-    contracted: u32,
-    bought: u32,
-    sold: u32,
-    figures: &mut [u32],
-)
-    requires { k + cells_per_agent ≤ length figures.old }
-    ensures { figures.new ≡ line_set figures.old k share own import contracted bought sold }
-{
-    figures[k] = share;
-    figures[k + 1] = own;
-    figures[k + 2] = import;
-    figures[k + 3] = contracted;
-    figures[k + 4] = bought;
-    figures[k + 5] = sold;
+    (i64::from(sold) - i64::from(bought)) * i64::from(price.min(Plant::OFFER))
 }
 
 // The lines and the money of n agents.
@@ -81,22 +58,11 @@ pub fn write_lines<'a>(
     ensures filled_2 { Filled (pos 0) money.old money.new n
         (line_money kinds.now own.now imports.now contracted.now price) }
 {
-    let mut a = 0;
-    while a < n {
+    for a in 0..n {
         let buys = bought(kinds[a], own[a], imports[a], contracted[a]) as u32;
         let sells = sold(kinds[a], own[a], contracted[a]);
-        write_line(
-            Agent::CELLS * a,
-            shares[a],
-            own[a],
-            imports[a],
-            contracted[a],
-            buys,
-            sells,
-            figures,
-        );
-        let m = owed(sells, buys, price);
-        money[a] = m;
-        a += 1;
+        let line = [shares[a], own[a], imports[a], contracted[a], buys, sells];
+        figures[Agent::CELLS * a..Agent::CELLS * (a + 1)].copy_from_slice(&line);
+        money[a] = owed(sells, buys, price);
     }
 }

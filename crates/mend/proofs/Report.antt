@@ -1,5 +1,6 @@
 -- WHAT THE REPORT SAYS, of what `mend` leaves in the lent lists: exactly the places where copy and original differ, in rising order, and
 -- with the copy it gives the original back. Assumes nothing.
+use Rattle.std.specs.Prelude.{Ok}
 use Prim.Native.Nat.{ℕ, zero, suc, ◌+◌, ◌*◌, ◌/◌, ◌%◌, ◌≤◌, ◌<◌}
 use native.Mathlib.Omega.{arith}
 use native.Mathlib.Decide.{dec_lt, ℕ_discrete}
@@ -12,7 +13,6 @@ use lib.Seq.{ext_get_or, get_or-set_same, get_or-set_other, get_or-take}
 use borrow.Author.Tests.{eqb-true, eqb-false, not-true, not-false}
 use Rattle.sums.specs.Lists.{at}
 use Rattle.mend.specs.Mend.{mended_at, count_to, changed, change_place, report_at, Mends, undone}
-use Rattle.mend.specs.declared.Mending.{Mending}
 use Rattle.mend.proofs.Places.{Found, place_is, place_found, count_rises, count_mono}
 use Rattle.mend.proofs.Changes.{other_changed}
 use Rattle.mend.proofs.Sound.{mended_length}
@@ -34,7 +34,7 @@ pub record Change (s copy report : List ℕ) (i : ℕ) : Type 0 where
   pub old : at report (3 * i + 1) ≡ at s (at report (3 * i))
   pub new : at report (3 * i + 2) ≡ at copy (at report (3 * i))
 
-module _ (s copy report copy' report' : List ℕ) (n : ℕ) (m : Mends s copy report (Mending.Done n) copy' report') where
+module _ (s copy report copy' report' : List ℕ) (n : ℕ) (m : Mends s copy report (Ok n) copy' report') where
   abbrev place : ℕ → ℕ
   place i = at report' (3 * i)
 

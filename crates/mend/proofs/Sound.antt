@@ -1,5 +1,6 @@
 -- The mended sheet, whole: its rows are the mended rows, so its counts stay, its layout is good, its unused bytes are 0, and mending it
 -- again changes nothing; nor does mending a sheet that reading accepts. Assumes nothing.
+use Rattle.std.specs.Prelude.{Ok}
 use Prim.Native.Nat.{ℕ, ◌+◌, ◌-◌, ◌*◌, ◌/◌, ◌<◌}
 use native.Mathlib.Omega.{arith}
 use native.Mathlib.Decide.{dec_lt}
@@ -14,7 +15,6 @@ use Rattle.sums.proofs.Lists.{length_list_to, get_d_list_to}
 use Rattle.sums.proofs.Sums.{sum_zero}
 use Rattle.sums.proofs.Picks.{pick_false}
 use Rattle.sums.proofs.Tests.{all_true}
-use Rattle.refusals.specs.declared.Verdict.{Verdict}
 use Rattle.refusals.proofs.Fine.{fine_parts, fine_test}
 use Rattle.octets.specs.Bytes.{words_at, byte_of, bytes_of}
 use Rattle.rows.specs.Rows.{agent_blank, boundary_blank}
@@ -25,7 +25,6 @@ use Rattle.sheet.specs.Reading.{boundary_start, plant_start, contract_start, tra
 use Rattle.sheet.specs.Reading.{counts_of, distances_good, layout_good, checks, read_verdict, read_of}
 use Rattle.sheet.specs.Counting.{count_verdict}
 use Rattle.sheet.specs.declared.Counts.{Counts}
-use Rattle.sheet.specs.declared.Reading.{Reading}
 use Rattle.sheet.proofs.Accepted.{good_few, few_good, Whole, accepted_whole, accepted_fine}
 use Rattle.sheet.proofs.Counted.{Counted}
 use Rattle.mend.specs.Mend.{distance, agents_and_boundaries, plants_and_contracts}
@@ -234,7 +233,7 @@ module _ (s : List ℕ) (w : Whole s (counts_of s)) where
 
 pub accepted_left : (s : List ℕ) (c : Counts)
     → Bytes s
-    → read_of s ≡ Reading.Accepted c
+    → read_of s ≡ Ok c
     → Counted s (counts_of s) × (mended_sheet s ≡ s)
 accepted_left s c by e =
     let w = accepted_whole s c e in
@@ -242,14 +241,14 @@ accepted_left s c by e =
     (whole_counted s w', whole_left s w' by)
 
 -- a sheet that reading accepts passes what mending asks
-pub accepted_length : (s : List ℕ) (c : Counts) → read_of s ≡ Reading.Accepted c → length_good (length s) ≡ true
+pub accepted_length : (s : List ℕ) (c : Counts) → read_of s ≡ Ok c → length_good (length s) ≡ true
 unfolding read_verdict
 accepted_length s c e = fine_test _ _ _ (fine_parts (checks s) (accepted_fine s c e)).0
 
 pub counted_verdict : (s : List ℕ)
     → length_good (length s) ≡ true
     → Counted s (counts_of s)
-    → count_verdict s ≡ Verdict.Fine
+    → count_verdict s ≡ Ok tt
 unfolding count_verdict
 counted_verdict s e k = rw (e, few_good _ k.few, eq-eqb _ _ k.long)
 

@@ -1,15 +1,16 @@
 -- Document 02, P14: a mended copy of a sheet, and a report of every byte changed. Assumes nothing.
+use Rattle.std.specs.Prelude.{Result, Ok, Err}
+use Rattle.refusals.specs.declared.Refusal.{Refusal}
 use Rattle.std.specs.Prelude.{ℕ, zero, suc, ◌+◌, ◌-◌, ◌*◌, ◌/◌, ◌%◌, ◌≡◌, Bool, ◌&&◌, not, cond, List, length, set, leb, ltb, eqb}
 use Rattle.sums.specs.Sums.{sum, pick, first}
 use Rattle.sums.specs.Lists.{at, Filled}
 use Rattle.refusals.specs.Refusals.{no_room, refused_unless, or_else, cells}
-use Rattle.refusals.specs.declared.Verdict.{Verdict}
+use Rattle.refusals.specs.Refusals.{Verdict}
 use Rattle.octets.specs.Bytes.{words_of, words_at, byte_of}
 use Rattle.octets.specs.declared.Words.{Words}
 use Rattle.sheet.specs.Reading.{boundary_start, plant_start, contract_start, trailer_start, counts_of}
 use Rattle.sheet.specs.Counting.{count_verdict}
 use Rattle.sheet.specs.declared.Counts.{Counts}
-use Rattle.mend.specs.declared.Mending.{Mending}
 
 -- ---- the mended sheet
 
@@ -82,19 +83,19 @@ mend_room s copy report = refused_unless (room_good s copy report) no_room 0
 unfoldable pub mend_verdict : List ℕ → (copy report : ℕ) → Verdict
 mend_verdict s copy report = or_else (count_verdict s) (mend_room s copy report)
 
-abbrev pub mending : Verdict → (changes : ℕ) → Mending
-mending Verdict.Fine n = Mending.Done n
-mending (Verdict.Refused r) n = Mending.Refused r
+abbrev pub mending : Verdict → (changes : ℕ) → Result ℕ Refusal
+mending (Ok tt) n = Ok n
+mending (Err r) n = Err r
 
 -- what is promised of a verdict v. Success hands back how many changes there are; cells past those needed keep their values; a
 -- refusal writes nothing
-pub record Mended (s copy report : List ℕ) (v : Verdict) (r : Mending) (copy' report' : List ℕ) : Type 0 where
+pub record Mended (s copy report : List ℕ) (v : Verdict) (r : Result ℕ Refusal) (copy' report' : List ℕ) : Type 0 where
   pub answer : r ≡ mending v (changes s)
   pub copied : Filled 0 copy copy' (cells v (length s)) (mended_at s)
   pub reported : Filled 0 report report' (cells v (3 * changes s)) (report_at s)
 
 -- the promise of `mend`
-abbrev pub Mends : (s copy report : List ℕ) → Mending → (copy' report' : List ℕ) → Type 0
+abbrev pub Mends : (s copy report : List ℕ) → Result ℕ Refusal → (copy' report' : List ℕ) → Type 0
 Mends s copy report = Mended s copy report (mend_verdict s (length copy) (length report))
 
 -- ---- the way back: the copy with each of n reported old bytes at its place

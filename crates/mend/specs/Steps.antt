@@ -1,11 +1,12 @@
 -- What the code's steps ask for and leave: nobody need believe this page. Assumes nothing.
+use Rattle.std.specs.Prelude.{Result}
+use Rattle.refusals.specs.declared.Refusal.{Refusal}
 use Rattle.std.specs.Prelude.{ℕ, ◌+◌, ◌*◌, ◌≤◌, ◌<◌, ◌≡◌, not, cond, List, length, set, eqb}
 use Rattle.sums.specs.Sums.{pick}
 use Rattle.sums.specs.Lists.{Filled}
 use Rattle.sheet.specs.Reading.{trailer_start, sheet_length, counts_of}
 use Rattle.sheet.specs.declared.Counts.{Counts}
 use Rattle.mend.specs.Mend.{mended_at, changes, report_at, mend_room, Mended}
-use Rattle.mend.specs.declared.Mending.{Mending}
 
 -- distances fit
 abbrev pub Small : Counts → Type 0
@@ -33,5 +34,5 @@ Copied s copy report copy' report' =
     Filled 0 copy copy' (length s) (mended_at s) × Filled 0 report report' (3 * changes s) (report_at s)
 
 -- the promise of mending a sheet whose rows are counted
-abbrev pub MendsCounted : (s copy report : List ℕ) → Mending → (copy' report' : List ℕ) → Type 0
+abbrev pub MendsCounted : (s copy report : List ℕ) → Result ℕ Refusal → (copy' report' : List ℕ) → Type 0
 MendsCounted s copy report = Mended s copy report (mend_room s (length copy) (length report))

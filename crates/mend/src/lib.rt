@@ -9,14 +9,6 @@ ghost use Rattle.mend.specs.Steps.{Small, Mendable, MendRoomy, noted, notes, Cop
 use octets::Words;
 use refusals::Refusal;
 use sheet::Counts;
-use sheet::counting::Counting;
-
-// What mending a sheet answers: how many bytes were changed, or why nothing was written.
-#[derive(Clone, Copy)]
-pub enum Mending {
-    Done(usize),
-    Refused(Refusal),
-}
 
 // The distance back from row `end` to row `start`, in bytes.
 fn distance(end: usize, start: usize) -> u32
@@ -27,6 +19,7 @@ fn distance(end: usize, start: usize) -> u32
 }
 
 // Row r of a sheet with these counts, where it says w.
+#[tactic(auto, unfolding(crate::specs::Mend::row_mended))]
 fn row_mended(c: Counts, r: usize, w: Words) -> Words
     requires { Small c }
     ensures { result ≡ row_mended c r w }
@@ -37,38 +30,32 @@ fn row_mended(c: Counts, r: usize, w: Words) -> Words
     let end = contracts + c.contracts;
     if r < boundaries {
         Words {
-            first: w.first,
             second: 0,
             third: 0,
             fourth: 0,
+            ..w
         }
     } else if r < plants {
-        Words {
-            first: w.first,
-            second: 0,
-            third: w.third,
-            fourth: w.fourth,
-        }
+        Words { second: 0, ..w }
     } else if r < end {
         w
     } else if r == end {
         Words {
             first: distance(end, 0),
-            second: w.second,
             third: distance(end, boundaries),
-            fourth: w.fourth,
+            ..w
         }
     } else {
         Words {
             first: distance(end, plants),
-            second: w.second,
             third: distance(end, contracts),
-            fourth: w.fourth,
+            ..w
         }
     }
 }
 
 // Number j of a row, and byte m of a number.
+#[tactic(auto, unfolding(octets::specs::Bytes::word))]
 fn number_in(w: Words, j: usize) -> u32
     requires { j < 4 }
     ensures { result ≡ word w j }
@@ -85,15 +72,11 @@ fn byte_in(x: u32, m: usize) -> u8
     requires { m < 4 }
     ensures { result ≡ x / 256 ^ m % 256 }
 {
-    match m {
-        0 => (x % 256) as u8,
-        1 => (x / 256 % 256) as u8,
-        2 => (x / 65536 % 256) as u8,
-        _ => (x / 16777216 % 256) as u8,
-    }
+    x.to_le_bytes()[m]
 }
 
 // Byte k of the mended sheet.
+#[tactic(auto, unfolding(crate::specs::Mend::mended_at, octets::specs::Bytes::byte_of))]
 fn mended_at(s: &[u8], c: Counts, k: usize) -> u8
     requires { Mendable s.now c }
     ensures { result ≡ mended_at s.now k }
@@ -104,10 +87,11 @@ fn mended_at(s: &[u8], c: Counts, k: usize) -> u8
 }
 
 // 1 where a byte is changed, 0 where it isn't.
+#[tactic(auto, unfolding(crate::specs::Steps::notes, sums::specs::Sums::pick))]
 fn one_if_changed(old: u8, new: u8) -> usize
     ensures { result ≡ notes old new }
 {
-    if old == new { 0 } else { 1 }
+    usize::from(old != new)
 }
 
 // How many bytes mending changes.
@@ -116,13 +100,14 @@ fn count_changes(s: &[u8], c: Counts) -> usize
     ensures { result ≡ changes s.now }
 {
     let mut n: usize = 0;
-    for k in 0..s.len() {
-        n += one_if_changed(s[k], mended_at(s, c, k));
+    for (k, &old) in s.iter().enumerate() {
+        n += one_if_changed(old, mended_at(s, c, k));
     }
     n
 }
 
 // Notes a change, where there is one, behind n others, and hands back how many there are then.
+#[tactic(auto, unfolding(crate::specs::Steps::notes, crate::specs::Steps::noted, sums::specs::Sums::pick))]
 fn note(report: &mut [u32], n: usize, place: usize, old: u8, new: u8) -> usize
     requires { (3 * (n + notes old new) ≤ length report.old) × (place < 4294967296) }
     ensures { (result ≡ n + notes old new) × (report.new ≡ noted report.old n place old new) }
@@ -131,8 +116,8 @@ fn note(report: &mut [u32], n: usize, place: usize, old: u8, new: u8) -> usize
         n
     } else {
         report[3 * n] = place as u32;
-        report[3 * n + 1] = old as u32;
-        report[3 * n + 2] = new as u32;
+        report[3 * n + 1] = u32::from(old);
+        report[3 * n + 2] = u32::from(new);
         n + 1
     }
 }
@@ -143,8 +128,7 @@ fn write_mended(s: &[u8], c: Counts, copy: &mut [u8], report: &mut [u32])
     ensures { Copied s.now copy.old report.old copy.new report.new }
 {
     let mut n: usize = 0;
-    for k in 0..s.len() {
-        let old = s[k];
+    for (k, &old) in s.iter().enumerate() {
         let new = mended_at(s, c, k);
         copy[k] = new;
         n = note(report, n, k, old, new);
@@ -152,30 +136,24 @@ fn write_mended(s: &[u8], c: Counts, copy: &mut [u8], report: &mut [u32])
 }
 
 // The same, where copy and report have room; hands back how many changes there are.
-fn mend_counted(s: &[u8], c: Counts, copy: &mut [u8], report: &mut [u32]) -> Mending
+#[tactic(auto, using(crate::proofs::Places::count_few))]
+fn mend_counted(s: &[u8], c: Counts, copy: &mut [u8], report: &mut [u32]) -> Result<usize, Refusal>
     requires { Mendable s.now c }
     ensures { MendsCounted s.now copy.old report.old result copy.new report.new }
 {
     let n = count_changes(s, c);
-    if (s.len() <= copy.len()) & (3 * n <= report.len()) {
-        write_mended(s, c, copy, report);
-        Mending::Done(n)
-    } else {
-        Mending::Refused(Refusal {
-            number: Refusal::ROOM,
-            place: 0,
-        })
-    }
+    let room = (s.len() <= copy.len()) & (3 * n <= report.len());
+    refusals::refuse_unless(room, Refusal::ROOM, 0)?;
+    write_mended(s, c, copy, report);
+    Ok(n)
 }
 
 // Any bytes: the mended copy at the front of `copy`, and at the front of `report` three numbers a change, in rising place: the
 // place, the old byte and the new one.
-pub fn mend(bytes: &[u8], copy: &mut [u8], report: &mut [u32]) -> Mending
+#[tactic(auto, using(crate::proofs::Verdicts::answers))]
+pub fn mend(bytes: &[u8], copy: &mut [u8], report: &mut [u32]) -> Result<usize, Refusal>
     ensures { Mends bytes.now copy.old report.old result copy.new report.new }
 {
-    let rows = sheet::counting::count_rows(bytes);
-    match rows {
-        Counting::Rows(c) => mend_counted(bytes, c, copy, report),
-        Counting::Refused(why) => Mending::Refused(why),
-    }
+    let c = sheet::counting::count_rows(bytes)?;
+    mend_counted(bytes, c, copy, report)
 }

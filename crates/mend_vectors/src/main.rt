@@ -6,7 +6,7 @@
 
 ghost use Rattle.std.specs.Prelude.{◌≤◌, ◌<◌};
 
-use input::cases::{Case, Next};
+use input::cases::Broken;
 use std::io;
 use std::io::Read;
 
@@ -15,13 +15,9 @@ const BYTE: u8 = 165;
 
 const CELL: u32 = 2779096485;
 
-fn wide(x: u8) -> u32 {
-    x as u32
-}
-
 // Byte k of a list, and number j of change i in a report; 0 past the end.
 fn byte(s: &[u8], k: usize) -> u32 {
-    if k < s.len() { wide(s[k]) } else { 0 }
+    if k < s.len() { u32::from(s[k]) } else { 0 }
 }
 
 fn figure(report: &[u32], i: usize, j: usize) -> u32
@@ -35,22 +31,8 @@ fn figure(report: &[u32], i: usize, j: usize) -> u32
 }
 
 // Whether nothing was written from there on.
-fn bytes_kept(copy: &[u8], from: usize) -> bool {
-    for k in from..copy.len() {
-        if copy[k] != BYTE {
-            return false;
-        }
-    }
-    true
-}
-
-fn cells_kept(report: &[u32], from: usize) -> bool {
-    for k in from..report.len() {
-        if report[k] != CELL {
-            return false;
-        }
-    }
-    true
+fn kept<T: Copy + PartialEq>(list: &[T], from: usize, before: T) -> bool {
+    list.iter().skip(from).all(|x| *x == before)
 }
 
 // Where the cells of n changes end.
@@ -70,13 +52,6 @@ fn is_told(report: &[u32], i: usize, k: usize, old: u32, new: u32) -> bool {
             & (figure(report, i, 2) == new))
 }
 
-// 1 where a byte is changed.
-fn changed(old: u32, new: u32) -> usize
-    ensures { result ≤ 1 }
-{
-    if old == new { 0 } else { 1 }
-}
-
 // Whether the copy is the sheet but for the n changes reported, which stand in rising place.
 fn as_reported(s: &[u8], copy: &[u8], report: &[u32], n: usize) -> bool {
     let mut i: usize = 0;
@@ -86,7 +61,7 @@ fn as_reported(s: &[u8], copy: &[u8], report: &[u32], n: usize) -> bool {
         if !is_told(report, i, k, old, new) {
             return false;
         }
-        i += changed(old, new);
+        i += usize::from(old != new);
     }
     i == n
 }
@@ -122,7 +97,7 @@ fn print_mended<P: Print>(
     print_changes(rt, report, n)?;
     let told = as_reported(s, copy, report, n);
     tell_unless(rt, told, "the copy is not the sheet with these changes\n")?;
-    let kept = bytes_kept(copy, s.len()) & cells_kept(report, cells(report, n));
+    let kept = kept(copy, s.len(), BYTE) & kept(report, cells(report, n), CELL);
     tell_unless(rt, kept, "more was written than was needed\n")
 }
 
@@ -134,7 +109,7 @@ fn print_refusal<P: Print>(
     report: &[u32],
 ) -> io::Result<()> {
     print!(rt; "refused {number} {place}\n")?;
-    let kept = bytes_kept(copy, 0) & cells_kept(report, 0);
+    let kept = kept(copy, 0, BYTE) & kept(report, 0, CELL);
     tell_unless(rt, kept, "a refusal has written\n")
 }
 
@@ -168,11 +143,11 @@ fn lend_front<P: Print + Eprint>(
     cells: usize,
 ) -> io::Result<bool> {
     if copy.len() < bytes {
-        input::cases::complain(rt, Case::Cut);
+        input::cases::complain(rt, Err(Broken::Cut));
         return Ok(false);
     }
     if report.len() < cells {
-        input::cases::complain(rt, Case::Cut);
+        input::cases::complain(rt, Err(Broken::Cut));
         return Ok(false);
     }
     print_case(rt, case, s, &mut copy[..bytes], &mut report[..cells])?;
@@ -200,14 +175,12 @@ fn run_rooms<P: Print + Eprint, R: Read>(
     case: u64,
     s: &[u8],
 ) -> io::Result<bool> {
-    let first = input::cases::next_number(from);
-    let Next::Number(bytes) = first else {
-        input::cases::complain(rt, Case::Cut);
+    let Ok(Some(bytes)) = input::cases::next_number(from) else {
+        input::cases::complain(rt, Err(Broken::Cut));
         return Ok(false);
     };
-    let second = input::cases::next_number(from);
-    let Next::Number(changes) = second else {
-        input::cases::complain(rt, Case::Cut);
+    let Ok(Some(changes)) = input::cases::next_number(from) else {
+        input::cases::complain(rt, Err(Broken::Cut));
         return Ok(false);
     };
     lend(rt, case, s, bytes as usize, changes)
@@ -216,7 +189,7 @@ fn run_rooms<P: Print + Eprint, R: Read>(
 fn run_case<P: Print + Eprint, R: Read>(rt: &P, from: &mut R, case: u64) -> io::Result<bool> {
     let mut buf = [0u8; 16384];
     let sheet = input::cases::read_case(from, &mut buf);
-    let Case::Sheet(n) = sheet else {
+    let Ok(Some(n)) = sheet else {
         input::cases::complain(rt, sheet);
         return Ok(false);
     };

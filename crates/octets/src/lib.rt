@@ -5,7 +5,7 @@ ghost use Rattle.std.specs.Prelude.{◌≡◌, ◌+◌, ◌≤◌, ◌<◌, leng
 ghost use Rattle.octets.specs.Bytes.{u32_at, words_at};
 
 // A row's sixteen bytes, as four 32-bit numbers.
-#[derive(Clone, Copy)]
+#[derive(Clone, Copy, Default)]
 pub struct Words {
     pub first: u32,
     pub second: u32,
@@ -13,21 +13,17 @@ pub struct Words {
     pub fourth: u32,
 }
 
-fn wide(x: u8) -> u32
-    ensures { (result ≡ x) × (result < 256) }
-{
-    x as u32
-}
-
 // The 32-bit number at byte k, little-endian.
+#[tactic(auto, unfolding(crate::specs::Bytes::u32_at))]
 fn u32_at(s: &[u8], k: usize) -> u32
     requires { k + 4 ≤ length s.now }
     ensures { result ≡ u32_at s.now k }
 {
-    wide(s[k]) + 256 * wide(s[k + 1]) + 65536 * wide(s[k + 2]) + 16777216 * wide(s[k + 3])
+    u32::from_le_bytes([s[k], s[k + 1], s[k + 2], s[k + 3]])
 }
 
 // Row r of the bytes; zeros past the last whole row.
+#[tactic(auto, unfolding(crate::specs::Bytes::words_at))]
 pub fn row_at(s: &[u8], r: usize) -> Words
     ensures { result ≡ words_at s.now r }
 {
@@ -40,11 +36,6 @@ pub fn row_at(s: &[u8], r: usize) -> Words
             fourth: u32_at(s, k + 12),
         }
     } else {
-        Words {
-            first: 0,
-            second: 0,
-            third: 0,
-            fourth: 0,
-        }
+        Words::default()
     }
 }

@@ -1,5 +1,6 @@
 -- No page is longer than 5,120 bytes: each of the hour's numbers is below a power of ten (the bounds are hour's), which bounds the
 -- digits of each line; a refusal's page is shorter than any. Assumes nothing.
+use Rattle.std.specs.Prelude.{Ok, Err}
 use Prim.Native.Nat.{ℕ, zero, suc, ◌+◌, ◌-◌, ◌*◌, ◌/◌, ◌%◌, ◌^◌, ◌≤◌, ◌<◌}
 use mathlib.Core.Path.{◌≡◌, refl, ◌∙◌}
 use mathlib.Core.List.{List, [], ◌∷◌}
@@ -10,12 +11,11 @@ use lib.IntN.{pos, neg_ℤ, nat_abs}
 use lib.ListN.{length}
 use Rattle.sums.specs.Lists.{at, list_to}
 use Rattle.sums.proofs.Lists.{get_d_list_to}
-use Rattle.refusals.specs.declared.Verdict.{Verdict}
+use Rattle.refusals.specs.Refusals.{Verdict}
 use Rattle.refusals.proofs.Fine.{fine_parts}
 use Rattle.limits.specs.Limits.{most_offer}
 use Rattle.sheet.specs.Reading.{read_verdict, counts_of, read_of}
 use Rattle.sheet.specs.Asking.{agent_at}
-use Rattle.sheet.specs.declared.Reading.{Reading}
 use Rattle.rows.proofs.ByKind.{agent_known}
 use Rattle.sheet.proofs.Accepted.{accepted_agent}
 use Rattle.hour.specs.Sheet.{Sheet, agents}
@@ -77,8 +77,8 @@ module _ (s : Sheet) (ok : Sound s) (b : Balanced s) (a : ℕ) (l : a < agents s
       }
 
 -- ---- the page
-module _ (bytes : List ℕ) (e : sheet_verdict bytes ≡ Verdict.Fine) where
-  read_fine : read_verdict bytes ≡ Verdict.Fine
+module _ (bytes : List ℕ) (e : sheet_verdict bytes ≡ Ok tt) where
+  read_fine : read_verdict bytes ≡ Ok tt
   unfolding sheet_verdict
   read_fine = (fine_parts (read_verdict bytes ∷ balance_verdict (hour_of bytes) ∷ cover_verdict (hour_of bytes) ∷ []) e).0
 
@@ -88,7 +88,7 @@ module _ (bytes : List ℕ) (e : sheet_verdict bytes ≡ Verdict.Fine) where
       balanced (hour_of bytes)
       (fine_parts (read_verdict bytes ∷ balance_verdict (hour_of bytes) ∷ cover_verdict (hour_of bytes) ∷ []) e).1.0
 
-  pub accepted : read_of bytes ≡ Reading.Accepted (counts_of bytes)
+  pub accepted : read_of bytes ≡ Ok (counts_of bytes)
   unfolding read_of
   accepted = rw read_fine
 
@@ -113,7 +113,7 @@ module _ (bytes : List ℕ) (e : sheet_verdict bytes ≡ Verdict.Fine) where
 
   short : let h =
       hour_of bytes in
-      ShortPage (summary_of Verdict.Fine h) h.kinds (list_to (figure h) (6 * agents h)) (list_to (money h) (agents h))
+      ShortPage (summary_of (Ok tt) h) h.kinds (list_to (figure h) (6 * agents h)) (list_to (money h) (agents h))
   short =
       let h = hour_of bytes in
       record {
@@ -132,9 +132,9 @@ unfolding page_text Told
 page_most bytes = go (sheet_verdict bytes) refl
   where
     go : (v : Verdict) → sheet_verdict bytes ≡ v → length (page_text bytes) ≤ most_page
-    go (Verdict.Refused q) e = rw e
-        (le_trans (refused_page (summary_of (Verdict.Refused q) (hour_of bytes)) _ _ _ (told_all bytes q e))
+    go (Err q) e = rw e
+        (le_trans (refused_page (summary_of (Err q) (hour_of bytes)) _ _ _ (told_all bytes q e))
         (omega arith))
-    go Verdict.Fine e =
+    go (Ok tt) e =
         let n = (hour_sound bytes e).few.agents in
-        rw e (le_trans (hour_page (summary_of Verdict.Fine (hour_of bytes)) _ _ _ refl (short bytes e)) (omega arith))
+        rw e (le_trans (hour_page (summary_of (Ok tt) (hour_of bytes)) _ _ _ refl (short bytes e)) (omega arith))

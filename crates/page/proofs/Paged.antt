@@ -1,4 +1,5 @@
 -- The page of a sheet from the page of its summary and the columns of its lines. Assumes nothing.
+use Rattle.std.specs.Prelude.{Result, Ok, Err}
 use Prim.Native.Nat.{ℕ, ◌*◌, ◌≤◌, ◌<◌}
 use mathlib.Core.Path.{◌≡◌, refl, ap, sym, ◌∙◌}
 use mathlib.Core.Bool.{Bool, true, false}
@@ -13,12 +14,10 @@ use Rattle.sums.specs.Lists.{at, list_to, Filled}
 use Rattle.sums.proofs.Lists.{length_list_to, get_d_list_to, list_to_is}
 use Rattle.refusals.specs.Refusals.{no_room, refused_unless}
 use Rattle.refusals.specs.declared.Refusal.{Refusal}
-use Rattle.refusals.specs.declared.Verdict.{Verdict}
 use Rattle.refusals.proofs.Fine.{else_fine}
 use Rattle.limits.specs.Limits.{most_agents, most_offer}
 use Rattle.sheet.specs.Reading.{read_of}
 use Rattle.sheet.specs.declared.Counts.{Counts}
-use Rattle.sheet.specs.declared.Reading.{Reading}
 use Rattle.sheet.proofs.Accepted.{refused_verdict}
 use Rattle.hour.specs.Sheet.{Sheet, agents}
 use Rattle.hour.specs.Lines.{bolsa_price, figure, money, cells_per_agent}
@@ -32,7 +31,6 @@ use Rattle.lines.specs.Lines.{buys, line_cell, line_money}
 use Rattle.lines.proofs.Sheets.{figures_are, money_are, lines_fit}
 use Rattle.settle.specs.Parts.{LineColumns}
 use Rattle.printing.specs.Page.{page_of, print_verdict, printed, Prints}
-use Rattle.printing.specs.declared.Printed.{Printed}
 use Rattle.printing.proofs.Printing.{one_outcome as printed-once}
 use Rattle.page.specs.Page.{page_text, PrintsAll}
 use Rattle.page.specs.Parts.{HourColumns, columns_text}
@@ -69,13 +67,13 @@ same_lists r k f k' f' m m' p q s = cc
 
 -- a sheet that is turned away
 pub refused_sheet : (bytes : List ℕ) (q : Refusal)
-    → sheet_verdict bytes ≡ Verdict.Refused q
+    → sheet_verdict bytes ≡ Err q
     → page_text bytes ≡ page_of (refused_summary q) [] [] []
 unfolding page_text Told
 refused_sheet bytes q e = rw e (refused_same (refused_summary q) _ _ [] [] _ [] (told_all bytes q e))
 
 -- reading's refusal is the sheet's
-pub unread_sheet : (bytes : List ℕ) (q : Refusal) → read_of bytes ≡ Reading.Refused q → sheet_verdict bytes ≡ Verdict.Refused q
+pub unread_sheet : (bytes : List ℕ) (q : Refusal) → read_of bytes ≡ Err q → sheet_verdict bytes ≡ Err q
 unfolding sheet_verdict
 unread_sheet bytes q e = rw (refused_verdict bytes q e)
 
@@ -106,7 +104,7 @@ module _ (h : Sheet) (n : ℕ) (e : agents h ≡ n) (ks ss os is cs : List ℕ) 
 pub printed_columns : (r : Summary) (n : ℕ) (ks ss os is cs : List ℕ)
     → n ≤ most_agents
     → n ≤ length ks
-    → (kinds figures : List ℕ) (m : List ℤ) (before : List ℕ) (p : Printed) (after : List ℕ)
+    → (kinds figures : List ℕ) (m : List ℤ) (before : List ℕ) (p : Result ℕ Refusal) (after : List ℕ)
     → kinds ≡ take n ks
     → figures ≡ list_to (line_cell ks ss os is cs) (cells_per_agent * n)
     → m ≡ list_to (line_money ks os is cs r.price) n
@@ -126,12 +124,12 @@ printed_columns r n ks ss os is cs few long kinds figures m before p after hk hf
     rw (all_kinds, hf, hm) at all
 
 -- an hour that nothing turns away
-module _ (bytes : List ℕ) (c : Counts) (e : read_of bytes ≡ Reading.Accepted c) (fine : sheet_verdict bytes ≡ Verdict.Fine)
+module _ (bytes : List ℕ) (c : Counts) (e : read_of bytes ≡ Ok c) (fine : sheet_verdict bytes ≡ Ok tt)
     (ks ss os is cs : List ℕ) (r : Summary) (d : HourColumns bytes c.agents ks ss os is cs r) where
   count : agents (hour_of bytes) ≡ c.agents
   count = rw (hour_is bytes c e) (agents_long bytes c)
 
-  summary_is : r ≡ summary_of Verdict.Fine (hour_of bytes)
+  summary_is : r ≡ summary_of (Ok tt) (hour_of bytes)
   summary_is = rw fine at d.answered
 
   price_is : r.price ≡ bolsa_price (hour_of bytes)
@@ -157,18 +155,18 @@ module _ (bytes : List ℕ) (c : Counts) (e : read_of bytes ≡ Reading.Accepted
 
 -- what was printed lies within the buffer
 pub done_fits : (text before : List ℕ) (n : ℕ)
-    → Printed.Done n ≡ printed (refused_unless (leb (length text) (length before)) no_room 0) (length text)
+    → Ok n ≡ printed (refused_unless (leb (length text) (length before)) no_room 0) (length text)
     → (n ≡ length text) × (n ≤ length before)
 done_fits text before n e = go (leb (length text) (length before)) refl e
   where
     go : (b : Bool)
         → leb (length text) (length before) ≡ b
-        → Printed.Done n ≡ printed (refused_unless b no_room 0) (length text)
+        → Ok n ≡ printed (refused_unless b no_room 0) (length text)
         → (n ≡ length text) × (n ≤ length before)
     go true f q = let s : n ≡ length text = cc in (s, omega (arith, leb-true (length text) (length before) f))
     go false f q = let no : ◌≡◌ {A = ℕ} 0 1 = cc in absurd (omega arith)
 
 -- any two outcomes that meet the promise of `page` are equal
-pub one_outcome : (bytes before after after' : List ℕ) (r r' : Printed) → PrintsAll (page_text bytes) before r after
+pub one_outcome : (bytes before after after' : List ℕ) (r r' : Result ℕ Refusal) → PrintsAll (page_text bytes) before r after
     → PrintsAll (page_text bytes) before r' after' → (r ≡ r') × (after ≡ after')
 one_outcome bytes before after after' r r' p q = printed-once p q

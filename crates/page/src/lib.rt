@@ -2,11 +2,10 @@
 // are written where settling is over: the stack never holds both.
 #![tactic(auto)]
 
-ghost use Rattle.std.specs.Prelude.{◌≡◌, [], ℕ, ◌≤◌, ◌<◌, length, take};
+ghost use Rattle.std.specs.Prelude.{◌≡◌, [], ℕ, ◌≤◌, ◌<◌};
 ghost use Rattle.limits.specs.Limits.{most_agents, most_offer};
 ghost use Rattle.sums.specs.Lists.{at};
 ghost use Rattle.sheet.specs.Reading.{read_of};
-ghost use Rattle.sheet.specs.declared.Reading.{Reading as Reading·answer};
 ghost use Rattle.balance.specs.Balances.{zeros};
 ghost use Rattle.lines.specs.Lines.{buys};
 ghost use Rattle.printing.specs.Page.{page_of};
@@ -16,9 +15,8 @@ ghost use Rattle.page.specs.Refused.{refused_summary};
 
 use hour::Summary;
 use limits::{Agent, Contract, Plant};
-use printing::Printed;
 use refusals::Refusal;
-use sheet::{Counts, Reading};
+use sheet::Counts;
 
 // No page is longer (`page_most`).
 pub const MOST: usize = 5120;
@@ -33,7 +31,7 @@ fn settle_lists(
     own: &mut [u32; Agent::MOST],
     imports: &mut [u32; Agent::MOST],
 ) -> Summary
-    requires sheet_value { read_of sheet.now ≡ Reading·answer.Accepted c }
+    requires sheet_value { read_of sheet.now ≡ Ok c }
     requires own_value { own.old ≡ zeros }
     ensures { HourColumns sheet.now c.agents kinds.new shares.new own.new
         imports.new held.new result }
@@ -54,14 +52,6 @@ fn settle_lists(
     )
 }
 
-// The first n cells of a list.
-fn front(list: &[u32], n: usize) -> &[u32]
-    requires { n ≤ length list.now }
-    ensures { result.now ≡ take n list.now }
-{
-    &list[..n]
-}
-
 // The page of a settled hour, from the columns that the lines of its n agents are made of.
 fn print_lines<'a>(
     s: Summary,
@@ -72,7 +62,7 @@ fn print_lines<'a>(
     held: &'a [u32; Agent::MOST],
     n: usize,
     out: &mut [u8],
-) -> Printed
+) -> Result<usize, Refusal>
     requires n_le_most_agents { (n ≤ most_agents) × (s.price ≤ most_offer) }
     requires by_index { (a : ℕ) → a < n → buys (at kinds.now a) (at own.now a) (at imports.now a) (at held.now a) ≤ 4294967295 }
     ensures { PrintsAll (columns_text s n kinds.now shares.now own.now imports.now
@@ -92,16 +82,13 @@ fn print_lines<'a>(
         &mut money,
     );
     let cells = Agent::CELLS * n;
-    printing::print(s, front(kinds, n), &figures[..cells], &money[..n], out)
+    printing::print(s, &kinds[..n], &figures[..cells], &money[..n], out)
 }
 
 // The page of a refusal.
-fn refused_page(why: Refusal, out: &mut [u8]) -> Printed
+fn refused_page(why: Refusal, out: &mut [u8]) -> Result<usize, Refusal>
     ensures { PrintsAll (page_of (refused_summary why) [] [] []) out.old result out.new }
 {
-    let kinds = [0u32; 1];
-    let figures = [0u32; 1];
-    let money = [0i64; 1];
     let r = Summary {
         number: why.number,
         place: why.place,
@@ -109,12 +96,12 @@ fn refused_page(why: Refusal, out: &mut [u8]) -> Printed
         demand: 0,
         losses: 0,
     };
-    printing::print(r, &kinds[..0], &figures[..0], &money[..0], out)
+    printing::print(r, &[], &[], &[], out)
 }
 
 // The page of an accepted sheet.
-fn accepted_page(sheet: &[u8], c: Counts, out: &mut [u8]) -> Printed
-    requires { read_of sheet.now ≡ Reading·answer.Accepted c }
+fn accepted_page(sheet: &[u8], c: Counts, out: &mut [u8]) -> Result<usize, Refusal>
+    requires { read_of sheet.now ≡ Ok c }
     ensures { PrintsAll (page_text sheet.now) out.old result out.new }
 {
     let n = c.agents;
@@ -132,6 +119,7 @@ fn accepted_page(sheet: &[u8], c: Counts, out: &mut [u8]) -> Printed
         &mut own,
         &mut imports,
     );
+    // the C interface tells the summary by its number, 0 for a settled hour: `Summary` is flat
     if s.number != 0 {
         let why = Refusal {
             number: s.number,
@@ -143,11 +131,11 @@ fn accepted_page(sheet: &[u8], c: Counts, out: &mut [u8]) -> Printed
 }
 
 // The page of any bytes: the settled hour, a line an agent, or the refusal.
-pub fn page(sheet: &[u8], out: &mut [u8]) -> Printed
+pub fn page(sheet: &[u8], out: &mut [u8]) -> Result<usize, Refusal>
     ensures { PrintsAll (page_text sheet.now) out.old result out.new }
 {
     match sheet::read(sheet) {
-        Reading::Accepted(c) => accepted_page(sheet, c, out),
-        Reading::Refused(why) => refused_page(why, out),
+        Ok(c) => accepted_page(sheet, c, out),
+        Err(why) => refused_page(why, out),
     }
 }

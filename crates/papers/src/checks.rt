@@ -1,11 +1,9 @@
 // `desk check SHEET STATEMENT`: whether the administrator's statement of an hour could be right, and where it differs from ours.
 use crate::{differences, faults, meanings};
 use channels::{fail, files, front, say, say_refused};
-use input::Input;
 use limits::{Agent, Contract, Plant};
 use refusals::{Refusal, Verdict};
-use sheet::{Counts, Reading};
-use stating::Statement;
+use sheet::Counts;
 use std::env::Env;
 use std::io;
 use std::rt::Files;
@@ -17,8 +15,8 @@ fn say_why<P: Print>(rt: &P, why: Refusal) -> io::Result<()> {
 
 fn say_verdict<P: Print>(rt: &P, v: Verdict) -> io::Result<()> {
     match v {
-        Verdict::Fine => say(rt, b"accepted\n"),
-        Verdict::Refused(why) => say_why(rt, why),
+        Ok(()) => say(rt, b"accepted\n"),
+        Err(why) => say_why(rt, why),
     }
 }
 
@@ -37,8 +35,8 @@ fn check_text<P: Print>(rt: &P, sheet: &[u8], c: Counts, text: &[u8]) -> io::Res
         &mut amounts,
     );
     match stated {
-        Statement::Wrong(line, f) => faults::say_wrong(rt, line, f, true),
-        Statement::Price(price) => {
+        Err(wrong) => faults::say_wrong(rt, wrong, true),
+        Ok(price) => {
             let v = checking::check(sheet, price, &figures, &money, &schedule, &amounts);
             say_verdict(rt, v)?;
             differences::say_all(rt, sheet, price, &figures, &money, &schedule, &amounts)
@@ -48,8 +46,8 @@ fn check_text<P: Print>(rt: &P, sheet: &[u8], c: Counts, text: &[u8]) -> io::Res
 
 fn check_sheet<P: Print>(rt: &P, sheet: &[u8], text: &[u8]) -> io::Result<()> {
     match sheet::read(sheet) {
-        Reading::Accepted(c) => check_text(rt, sheet, c, text),
-        Reading::Refused(why) => say_why(rt, why),
+        Ok(c) => check_text(rt, sheet, c, text),
+        Err(why) => say_why(rt, why),
     }
 }
 
@@ -57,12 +55,10 @@ fn check_sheet<P: Print>(rt: &P, sheet: &[u8], text: &[u8]) -> io::Result<()> {
 pub(crate) fn run<R: Env + Files + Print + Eprint>(rt: &R, from: usize, theirs: usize) {
     let mut sheet = [0u8; files::ROOM];
     let mut text = [0u8; files::TEXT];
-    let of_sheet = files::read_named(rt, from, &mut sheet);
-    let Input::Bytes(n) = of_sheet else {
+    let Ok(n) = files::read_named(rt, from, &mut sheet) else {
         return;
     };
-    let of_text = files::read_text(rt, theirs, &mut text);
-    let Input::Bytes(m) = of_text else {
+    let Ok(m) = files::read_text(rt, theirs, &mut text) else {
         return;
     };
     if let Err(why) = check_sheet(rt, front(&sheet, n), front(&text, m)) {

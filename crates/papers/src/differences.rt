@@ -1,5 +1,5 @@
 // Where a statement differs from our own settlement: a line a cell.
-ghost use Rattle.std.specs.Prelude.{◌≤◌, ◌<◌, length};
+ghost use Rattle.std.specs.Prelude.{◌<◌};
 ghost use Rattle.limits.specs.Limits.{most_agents};
 
 use channels::{say, say_signed};
@@ -79,24 +79,19 @@ fn say_agents<P: Print>(
     Ok(())
 }
 
-fn say_row<P: Print>(rt: &P, plant: bool, i: usize, ours: u32, theirs: u32) -> io::Result<()> {
-    if ours == theirs {
-        return Ok(());
-    }
-    if plant {
-        print!(rt; "plant {i} schedule")?;
-    } else {
-        print!(rt; "contract {i} amount")?;
-    }
-    say_pair(rt, ours, theirs)
-}
-
-// The schedules of plants, or else the amounts of contracts.
-fn say_rows<P: Print>(rt: &P, plants: bool, ours: &[u32], theirs: &[u32]) -> io::Result<()>
-    requires { length ours.now ≤ length theirs.now }
-{
-    for i in 0..ours.len() {
-        say_row(rt, plants, i, ours[i], theirs[i])?;
+// The schedules of plants, and the amounts of contracts: a row has its number between these words.
+fn say_rows<P: Print>(
+    rt: &P,
+    row: &str,
+    what: &str,
+    ours: &[u32],
+    theirs: &[u32],
+) -> io::Result<()> {
+    for (i, (&ours, &theirs)) in ours.iter().zip(theirs).enumerate() {
+        if ours != theirs {
+            print!(rt; "{row} {i} {what}")?;
+            say_pair(rt, ours, theirs)?;
+        }
     }
     Ok(())
 }
@@ -128,6 +123,6 @@ pub(crate) fn say_all<P: Print>(
     }
     say_price(rt, r.price, price)?;
     say_agents(rt, &our_figures, figures, &our_money, money)?;
-    say_rows(rt, true, &our_schedule, schedule)?;
-    say_rows(rt, false, &our_amounts, amounts)
+    say_rows(rt, "plant", "schedule", &our_schedule, schedule)?;
+    say_rows(rt, "contract", "amount", &our_amounts, amounts)
 }

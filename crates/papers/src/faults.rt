@@ -1,6 +1,6 @@
 // What is wrong with a line of text: its number, the fault's, and a sentence.
 use std::io;
-use text::Fault;
+use text::{Fault, WrongLine};
 
 // The words that a line may begin with.
 fn of_word(statement: bool) -> &'static str {
@@ -23,7 +23,6 @@ fn of_rows(statement: bool) -> &'static str {
 // The sentence, a line of its own.
 fn sentence(f: Fault, statement: bool) -> &'static str {
     match f {
-        Fault::None => "",
         Fault::Word => of_word(statement),
         Fault::Few => "It has fewer numbers than its word asks for.\n",
         Fault::Many => "It has more numbers than its word asks for.\n",
@@ -36,15 +35,11 @@ fn sentence(f: Fault, statement: bool) -> &'static str {
 }
 
 // Of a statement's text, or else of a sheet's.
-pub(crate) fn say_wrong<P: Print>(
-    rt: &P,
-    line: usize,
-    f: Fault,
-    statement: bool,
-) -> io::Result<()> {
+pub(crate) fn say_wrong<P: Print>(rt: &P, wrong: WrongLine, statement: bool) -> io::Result<()> {
+    let WrongLine { line, fault } = wrong;
     print!(rt;
         "wrong {line} {}\n{}",
-        text::number_of(f),
-        sentence(f, statement)
+        text::number_of(Some(fault)),
+        sentence(fault, statement)
     )
 }

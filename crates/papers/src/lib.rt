@@ -14,24 +14,20 @@ use std::rt::Files;
 
 // The words that take one file.
 fn run_one<R: Env + Files + Print + Eprint>(rt: &R, word: &[u8], from: usize) -> bool {
-    if words::is_same(word, b"text") {
-        showing::run(rt, from, false);
-    } else if words::is_same(word, b"statement") {
-        showing::run(rt, from, true);
-    } else {
-        return false;
+    match word {
+        b"text" => showing::run(rt, from, false),
+        b"statement" => showing::run(rt, from, true),
+        _ => return false,
     }
     true
 }
 
 // The words that take two.
 fn run_two<R: Env + Files + Print + Eprint>(rt: &R, word: &[u8], one: usize, other: usize) -> bool {
-    if words::is_same(word, b"sheet") {
-        making::run(rt, one, other);
-    } else if words::is_same(word, b"check") {
-        checks::run(rt, one, other);
-    } else {
-        return false;
+    match word {
+        b"sheet" => making::run(rt, one, other),
+        b"check" => checks::run(rt, one, other),
+        _ => return false,
     }
     true
 }

@@ -1,12 +1,11 @@
 // `desk sheet TEXT OUT`: the sheet of a text in a new file.
 use crate::{faults, meanings};
 use channels::{fail, files, front, say, say_refusal};
-use input::Input;
 use refusals::Refusal;
 use std::env::Env;
 use std::io;
 use std::rt::Files;
-use typing::Made;
+use typing::Unmade;
 
 // What is said is of a file that was written; why it could not be was told.
 fn write_sheet<R: Env + Files + Print + Eprint>(
@@ -39,17 +38,16 @@ fn make<R: Env + Files + Print + Eprint>(rt: &R, text: &[u8], out: usize) -> io:
     let mut sheet = [0u8; files::ROOM];
     let made = typing::make(text, &mut sheet);
     match made {
-        Made::Done(n) => write_sheet(rt, front(&sheet, n), out),
-        Made::Wrong(line, f) => faults::say_wrong(rt, line, f, false),
-        Made::Refused(line, why) => say_refused_row(rt, line, why),
+        Ok(n) => write_sheet(rt, front(&sheet, n), out),
+        Err(Unmade::Wrong(wrong)) => faults::say_wrong(rt, wrong, false),
+        Err(Unmade::Refused(line, why)) => say_refused_row(rt, line, why),
     }
 }
 
 // The text is the file that word `from` names, the sheet the one that word `out` names.
 pub(crate) fn run<R: Env + Files + Print + Eprint>(rt: &R, from: usize, out: usize) {
     let mut text = [0u8; files::TEXT];
-    let got = files::read_text(rt, from, &mut text);
-    let Input::Bytes(n) = got else {
+    let Ok(n) = files::read_text(rt, from, &mut text) else {
         return;
     };
     if let Err(why) = make(rt, front(&text, n), out) {

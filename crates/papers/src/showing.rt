@@ -1,7 +1,6 @@
 // `desk text SHEET` and `desk statement SHEET`: a sheet's text, and the statement of its hour as we settle it.
 use channels::{fail, files, front, say, say_refused};
-use input::Input;
-use printing::Printed;
+use refusals::Refusal;
 use std::env::Env;
 use std::io;
 use std::rt::Files;
@@ -9,7 +8,7 @@ use std::rt::Files;
 // Room for the text of every sheet, at most 114 bytes a row, and for every statement.
 const ROOM: usize = 72960;
 
-fn write_text(sheet: &[u8], stated: bool, out: &mut [u8]) -> Printed {
+fn write_text(sheet: &[u8], stated: bool, out: &mut [u8]) -> Result<usize, Refusal> {
     if stated {
         telling::tell(sheet, out)
     } else {
@@ -19,18 +18,16 @@ fn write_text(sheet: &[u8], stated: bool, out: &mut [u8]) -> Printed {
 
 fn show<P: Print>(rt: &P, sheet: &[u8], stated: bool) -> io::Result<()> {
     let mut text = [0u8; ROOM];
-    let printed = write_text(sheet, stated, &mut text);
-    match printed {
-        Printed::Done(n) => say(rt, front(&text, n)),
-        Printed::Refused(why) => say_refused(rt, why),
+    match write_text(sheet, stated, &mut text) {
+        Ok(n) => say(rt, front(&text, n)),
+        Err(why) => say_refused(rt, why),
     }
 }
 
 // The sheet is the file that word `from` names.
 pub(crate) fn run<R: Env + Files + Print + Eprint>(rt: &R, from: usize, stated: bool) {
     let mut sheet = [0u8; files::ROOM];
-    let got = files::read_named(rt, from, &mut sheet);
-    let Input::Bytes(n) = got else {
+    let Ok(n) = files::read_named(rt, from, &mut sheet) else {
         return;
     };
     if let Err(why) = show(rt, front(&sheet, n), stated) {

@@ -9,10 +9,9 @@ use native.Mathlib.Decide.{dec_lt}
 use native.Mathlib.Numerals.{add-one}
 use lib.Dec.{ltb, eqb}
 use lib.IntN.{ℤ, pos, nat_abs}
-use lib.ListN.{length, get_or, set, length-append, get_or-append}
-use lib.Seq.{get_or-append-add}
+use lib.ListN.{length, get_or, length-append, get_or-append}
 use Rattle.sums.specs.Lists.{at, Filled}
-use Rattle.sums.proofs.Fill.{filled_count, filled_more}
+use Rattle.sums.proofs.Fill.{filled_count}
 use Rattle.hour.specs.declared.Summary.{Summary}
 use Rattle.printing.specs.Text.{spell, decimal, minus, signed, spaced, lines_to}
 use Rattle.printing.specs.Page.{hour_word, line_numbers, line_of, hour_text, refused_text, page_of}
@@ -144,9 +143,6 @@ lines_most r agents = go (eqb r.number 0)
 front_is : (front text : List ℕ) (k : ℕ) → k < length front → at (front ++ text) k ≡ at front k
 front_is front text k h = get_or-append front text 0 k h
 
-behind_is : (front text : List ℕ) (k i : ℕ) → length front ≡ k → at (front ++ text) (k + i) ≡ at text i
-behind_is front text k i e = rw (sym e) (get_or-append-add front text i 0)
-
 pub behind_none : (start l front text : List ℕ) (k : ℕ)
     → length front ≡ k
     → Filled 0 start l k (at front)
@@ -157,16 +153,6 @@ behind_none start l front text k e f =
       kept = λ j h. f.kept j (omega arith);
       long = f.long;
     }
-
-pub behind_more : (start l front text : List ℕ) (k i v : ℕ)
-    → length front ≡ k
-    → k + i < length l
-    → v ≡ at text i
-    → Filled 0 start l (k + i) (at (front ++ text))
-    → Filled 0 start (set l (k + i) v) (k + (i + 1)) (at (front ++ text))
-behind_more start l front text k i v e h q f =
-    filled_count 0 _ _ (k + i + 1) (k + (i + 1)) _ (omega arith)
-    (filled_more 0 _ _ _ _ _ h (q ∙ sym (behind_is front text k i e)) f)
 
 pub appended_none : (before : List ℕ) (k : ℕ) → Appended [] k before before
 appended_none before k start front e f = behind_none start before front [] k e f

@@ -1,5 +1,4 @@
 pub mod Text
-pub mod Room
 pub mod Money
 pub mod Printing
 pub mod Front

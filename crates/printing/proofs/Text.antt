@@ -1,25 +1,23 @@
 -- Laws of text that is built from its end. Assumes nothing.
 use Prim.Native.Nat.{ℕ, zero, suc, ◌+◌, ◌-◌, ◌*◌, ◌/◌, ◌%◌, ◌^◌, ◌<◌, ◌≤◌}
 use mathlib.Core.Path.{◌≡◌, refl, ap, ◌∙◌}
-use mathlib.Core.List.{List, ◌∷◌}
+use mathlib.Core.List.{List, [], ◌∷◌, ◌++◌, map, reverse}
+use Rattle.std.proofs.lemmas.List.{map-append, reverse-append}
 use native.Mathlib.Omega.{arith}
 use native.Mathlib.Nat.{pow-suc}
 use native.Mathlib.Numerals.{add-one}
 use borrow.Author.Tests.{lt-ltb, le-ltb}
-use lib.ListN.{length, drop, set, length-set}
-use lib.Seq.{drop-cons, drop-set-lt, get_or-set_same}
+use lib.ListN.{length, drop, length-drop}
+use lib.Seq.{drop-cons}
 use Rattle.sums.specs.Lists.{at}
-use Rattle.printing.specs.Text.{spell, spaced, decimal, lines_to}
+use Rattle.printing.specs.Text.{spell, lines_to}
+use Rattle.printing.specs.Put.{Put}
 
--- a byte put in front
-pub lead : (s : List ℕ) (i v : ℕ) → 0 < i → i ≤ length s → drop (i - 1) (set s (i - 1) v) ≡ v ∷ drop i s
-lead s i v p h =
-    let j = i - 1 in
-    let l : j < length s = omega arith in
-    let k : j < length (set s j v) = rw (length-set s j v) l in
-    let e : suc j ≡ i = omega arith in
-    drop-cons (set s j v) j 0 k
-    ∙ (rw (get_or-set_same s j v 0 l, drop-set-lt (suc j) s j v (omega arith), e))
+-- a byte put in front takes one
+pub one_byte : (before after : List ℕ) (b i r : ℕ) → 1 ≤ i → i ≤ length before → length after ≡ length before
+    → Put (b ∷ drop i before) after i 1 r → r + 1 ≡ i
+one_byte before after b i r some within long put =
+    omega (arith, ap length put.text_is, length-drop r after, length-drop i before, put.low, put.high)
 
 pub spell_more : (k n : ℕ) (rest : List ℕ)
     → 10 ≤ n
@@ -51,13 +49,9 @@ drop_more v k p h =
     let e : suc (k - 1) ≡ k = omega arith in
     drop-cons v (k - 1) 0 (omega arith) ∙ ap (λ (j : ℕ). at v (k - 1) ∷ drop j v) e
 
--- the last number of what is left goes in front of what stands
-pub spaced_more : (v : List ℕ) (k : ℕ) (rest : List ℕ)
-    → 0 < k
-    → k ≤ length v
-    → spaced (drop (k - 1) v) rest ≡ decimal (at v (k - 1)) (32 ∷ spaced (drop k v) rest)
-unfolding spaced
-spaced_more v k rest p h = ap (λ (l : List ℕ). spaced l rest) (drop_more v k p h)
+-- the last that was taken stands before those taken from behind it
+pub one_before : {A : Type 0} (f : A → ℕ) (xs : List A) (x : A) → reverse (map f (xs ++ x ∷ [])) ≡ f x ∷ reverse (map f xs)
+one_before f xs x = simp (map-append, reverse-append)
 
 -- the last line of what is left goes in front of what stands
 pub lines_more : (g : ℕ → List ℕ → List ℕ) (k : ℕ) (rest : List ℕ)

@@ -1,12 +1,13 @@
 -- Document 01, 'One hour in full': the page of an hour, byte by byte. Assumes nothing.
+use Rattle.std.specs.Prelude.{Result, Ok, Err}
+use Rattle.refusals.specs.declared.Refusal.{Refusal}
 use Rattle.std.specs.Prelude.{ℕ, ◌+◌, ◌*◌, ◌≡◌, cond, ◌&&◌, List, [], ◌∷◌, ◌++◌, ℤ, pos, length, get_or, leb, eqb}
 use Rattle.sums.specs.Lists.{at, Filled}
 use Rattle.refusals.specs.Refusals.{bad_layout, no_room, refused_unless, first_of, cells}
-use Rattle.refusals.specs.declared.Verdict.{Verdict}
+use Rattle.refusals.specs.Refusals.{Verdict}
 use Rattle.limits.specs.Limits.{most_agents}
 use Rattle.hour.specs.declared.Summary.{Summary}
 use Rattle.printing.specs.Text.{decimal, signed, spaced, lines_to}
-use Rattle.printing.specs.declared.Printed.{Printed}
 
 -- `hour ` and `refused `
 abbrev pub hour_word : List ℕ
@@ -50,11 +51,11 @@ print_verdict kinds figures money size room =
     ∷ refused_unless (leb size room) no_room 0
     ∷ [])
 
-abbrev pub printed : Verdict → ℕ → Printed
-printed Verdict.Fine n = Printed.Done n
-printed (Verdict.Refused r) n = Printed.Refused r
+abbrev pub printed : Verdict → ℕ → Result ℕ Refusal
+printed (Ok tt) n = Ok n
+printed (Err r) n = Err r
 
 -- the bytes of `text` at the front of a lent buffer where the verdict is fine; a refusal writes nothing
-pub record Prints (v : Verdict) (text before : List ℕ) (r : Printed) (after : List ℕ) : Type 0 where
+pub record Prints (v : Verdict) (text before : List ℕ) (r : Result ℕ Refusal) (after : List ℕ) : Type 0 where
   pub answer : r ≡ printed v (length text)
   pub bytes : Filled 0 before after (cells v (length text)) (at text)

@@ -4,23 +4,15 @@
 
 pub mod pen;
 
-ghost use Rattle.std.specs.Prelude.{◌≡◌, true, false, ◌&&◌, ◌∷◌, [], ◌++◌, ◌+◌, ◌-◌, ◌*◌, ◌≤◌, ◌<◌, leb, pos, nat_abs, length, drop};
-ghost use Rattle.sums.specs.Lists.{at};
+ghost use Rattle.std.specs.Prelude.{◌≡◌, ◌&&◌, ◌∷◌, [], ◌++◌, ◌+◌, ◌*◌, ◌≤◌, ◌<◌, leb, length, drop};
 ghost use Rattle.limits.specs.Limits.{most_agents};
-ghost use Rattle.printing.specs.Text.{spell, decimal, minus, signed, spaced, lines_to};
+ghost use Rattle.printing.specs.Text.{spell, decimal, signed, spaced, lines_to};
 ghost use Rattle.printing.specs.Page.{line_of, refused_text, page_of, print_verdict, Prints};
 ghost use Rattle.printing.specs.Put.{Put, hour_head, head_of, lines_in, Listed, Appended};
 
 use hour::Summary;
 use limits::Agent;
 use refusals::Refusal;
-
-// What printing answers: how many bytes the page has, or why there is none.
-#[derive(Clone, Copy)]
-pub enum Printed {
-    Done(usize),
-    Refused(Refusal),
-}
 
 // One byte before byte `at`.
 fn put_byte(s: &mut [u8], at: usize, b: u8) -> usize
@@ -38,16 +30,12 @@ fn put_decimal(s: &mut [u8], at: usize, n: u64) -> usize
 {
     let mut i = at;
     let mut rest = n;
-    let mut left: usize = 19;
+    // How many digits there are shows only as they are put, so nothing counts them beforehand.
     while rest >= 10 {
-        i -= 1;
-        s[i] = (48 + rest % 10) as u8;
+        i = put_byte(s, i, b'0' + (rest % 10) as u8);
         rest /= 10;
-        left -= 1;
     }
-    i -= 1;
-    s[i] = (48 + rest % 10) as u8;
-    i
+    put_byte(s, i, b'0' + rest as u8)
 }
 
 // A number with a space behind it, before byte `at`.
@@ -56,7 +44,7 @@ fn put_spaced_one(s: &mut [u8], at: usize, n: u32) -> usize
     ensures { Put (decimal n (32 ∷ drop at s.old)) s.new at 21 result }
 {
     let i = put_byte(s, at, b' ');
-    put_decimal(s, i, sums::wide(n))
+    put_decimal(s, i, u64::from(n))
 }
 
 // Numbers with a space behind each, before byte `at`.
@@ -65,45 +53,10 @@ fn put_spaced(s: &mut [u8], at: usize, v: &[u32]) -> usize
     ensures { Put (spaced v.now (drop at s.old)) s.new at (21 * length v.now) result }
 {
     let mut i = at;
-    let mut k = v.len();
-    while k > 0 {
-        k -= 1;
-        i = put_spaced_one(s, i, v[k]);
+    for &n in v.iter().rev() {
+        i = put_spaced_one(s, i, n);
     }
     i
-}
-
-fn below(x: i64) -> bool
-    ensures { result ≡ minus x }
-{
-    x < 0
-}
-
-// x as it is, where it is not below 0.
-fn plain(x: i64) -> u64
-    requires { minus x ≡ false }
-    ensures { result ≡ nat_abs x }
-{
-    x as u64
-}
-
-// How far x, which is below 0, stands below -1: this fits where -x may not.
-fn below_minus_one(x: i64) -> i64
-    requires { minus x ≡ true }
-    ensures { result ≡ pos (nat_abs x - 1) }
-{
-    -1 - x
-}
-
-// How far x is from 0.
-fn magnitude(x: i64) -> u64
-    ensures { result ≡ nat_abs x }
-{
-    if below(x) {
-        plain(below_minus_one(x)) + 1
-    } else {
-        plain(x)
-    }
 }
 
 // A number with its sign, before byte `at`.
@@ -111,9 +64,8 @@ fn put_signed(s: &mut [u8], at: usize, x: i64) -> usize
     requires { (21 ≤ at) × (at ≤ length s.old) }
     ensures { Put (signed x (drop at s.old)) s.new at 21 result }
 {
-    let m = magnitude(x);
-    let i = put_decimal(s, at, m);
-    if below(x) { put_byte(s, i, b'-') } else { i }
+    let i = put_decimal(s, at, x.unsigned_abs());
+    if x < 0 { put_byte(s, i, b'-') } else { i }
 }
 
 // A word, before byte `at`.
@@ -121,12 +73,8 @@ fn put_word(s: &mut [u8], at: usize, word: &[u8]) -> usize
     requires { (length word.now ≤ at) × (at ≤ length s.old) }
     ensures { Put (word.now ++ drop at s.old) s.new at (length word.now) result }
 {
-    let mut i = at;
-    let mut k = word.len();
-    while k > 0 {
-        k -= 1;
-        i = put_byte(s, i, word[k]);
-    }
+    let i = at - word.len();
+    s[i..at].copy_from_slice(word);
     i
 }
 
@@ -161,30 +109,33 @@ fn put_line(
 }
 
 // The first line of a settled hour at the end of `s`.
+#[tactic(auto, unfolding(crate::specs::Put::hour_head))]
 fn put_hour(s: &mut [u8], r: Summary) -> usize
     requires { 68 ≤ length s.old }
     ensures { (drop result s.new ≡ hour_head r) × (result ≤ length s.old) }
 {
     let i = put_byte(s, s.len(), b'\n');
-    let j = put_decimal(s, i, sums::wide(r.losses));
+    let j = put_decimal(s, i, u64::from(r.losses));
     let numbers = [r.price, r.demand];
     let k = put_spaced(s, j, &numbers);
     put_word(s, k, b"hour ")
 }
 
 // The line of a refusal at the end of `s`.
+#[tactic(auto, unfolding(crate::specs::Page::refused_text))]
 fn put_refused(s: &mut [u8], r: Summary) -> usize
     requires { 50 ≤ length s.old }
     ensures { (drop result s.new ≡ refused_text r) × (result ≤ length s.old) }
 {
     let i = put_byte(s, s.len(), b'\n');
-    let j = put_decimal(s, i, sums::wide(r.place));
+    let j = put_decimal(s, i, u64::from(r.place));
     let numbers = [r.number];
     let k = put_spaced(s, j, &numbers);
     put_word(s, k, b"refused ")
 }
 
 // The first line of the page at the end of `s`.
+#[tactic(auto, unfolding(crate::specs::Put::head_of))]
 fn put_head(s: &mut [u8], r: Summary) -> usize
     requires { 68 ≤ length s.old }
     ensures { (drop result s.new ≡ head_of r) × (result ≤ length s.old) }
@@ -197,6 +148,7 @@ fn put_head(s: &mut [u8], r: Summary) -> usize
 }
 
 // How many lines are behind it: one an agent, and none behind a refusal.
+#[tactic(auto, unfolding(crate::specs::Put::lines_in))]
 fn lines_in(r: Summary, agents: usize) -> usize
     ensures { result ≡ lines_in r agents }
 {
@@ -231,26 +183,20 @@ fn lines_length(kinds: &[u32], figures: &[u32], money: &[i64], n: usize) -> usiz
         × (result ≤ 169 * n) }
 {
     let mut k = 0;
-    let mut a = 0;
-    while a < n {
+    for a in 0..n {
         k += line_length(kinds, figures, money, a);
-        a += 1;
     }
     k
 }
 
 // ---- the page in the lent buffer
 
-// What stands in `s` from `from` on, copied to byte k of `out` and those behind it.
-fn copy_out(s: &[u8], from: usize, out: &mut [u8], k: usize)
-    requires { (from ≤ length s.now) × (k + (length s.now - from) ≤ length out.old) }
-    ensures { Appended (drop from s.now) k out.old out.new }
+// A text, copied to byte k of `out` and those behind it.
+fn copy_out(text: &[u8], out: &mut [u8], k: usize)
+    requires { k + length text.now ≤ length out.old }
+    ensures { Appended text.now k out.old out.new }
 {
-    let mut i = 0;
-    while i < s.len() - from {
-        out[k + i] = s[from + i];
-        i += 1;
-    }
+    out[k..k + text.len()].copy_from_slice(text);
 }
 
 fn write_head(r: Summary, out: &mut [u8])
@@ -259,7 +205,7 @@ fn write_head(r: Summary, out: &mut [u8])
 {
     let mut s = [0u8; HEAD];
     let from = put_head(&mut s, r);
-    copy_out(&s, from, out, 0);
+    copy_out(&s[from..], out, 0);
 }
 
 // Agent a's line from byte k on; handed back is where it ends.
@@ -279,7 +225,7 @@ fn write_line(
 {
     let mut s = [0u8; LINE];
     let from = put_line(&mut s, LINE, kinds, figures, money, a);
-    copy_out(&s, from, out, k);
+    copy_out(&s[from..], out, k);
     k + (LINE - from)
 }
 
@@ -291,10 +237,8 @@ fn write_lines(kinds: &[u32], figures: &[u32], money: &[i64], n: usize, out: &mu
         out.old out.new }
 {
     let mut k = from;
-    let mut a = 0;
-    while a < n {
+    for a in 0..n {
         k = write_line(kinds, figures, money, a, out, k);
-        a += 1;
     }
 }
 
@@ -302,20 +246,23 @@ fn write_lines(kinds: &[u32], figures: &[u32], money: &[i64], n: usize, out: &mu
 fn lists_good(kinds: usize, figures: usize, money: usize) -> bool
     ensures { result ≡ (leb kinds most_agents && leb (6 * kinds) figures && leb kinds money) }
 {
-    if kinds <= Agent::MOST {
-        return (Agent::CELLS * kinds <= figures) & (kinds <= money);
-    }
-    false
+    kinds <= Agent::MOST && Agent::CELLS * kinds <= figures && kinds <= money
 }
 
 // The page of an hour, put into a lent buffer.
-pub fn print(r: Summary, kinds: &[u32], figures: &[u32], money: &[i64], out: &mut [u8]) -> Printed
+pub fn print(
+    r: Summary,
+    kinds: &[u32],
+    figures: &[u32],
+    money: &[i64],
+    out: &mut [u8],
+) -> Result<usize, Refusal>
     ensures { Prints (print_verdict kinds.now figures.now money.now
         (length (page_of r kinds.now figures.now money.now)) (length out.old))
         (page_of r kinds.now figures.now money.now) out.old result out.new }
 {
     if !lists_good(kinds.len(), figures.len(), money.len()) {
-        return Printed::Refused(Refusal {
+        return Err(Refusal {
             number: Refusal::LAYOUT,
             place: 0,
         });
@@ -324,12 +271,12 @@ pub fn print(r: Summary, kinds: &[u32], figures: &[u32], money: &[i64], out: &mu
     let head = head_length(r);
     let size = head + lines_length(kinds, figures, money, n);
     if out.len() < size {
-        return Printed::Refused(Refusal {
+        return Err(Refusal {
             number: Refusal::ROOM,
             place: 0,
         });
     }
     write_head(r, out);
     write_lines(kinds, figures, money, n, out, head);
-    Printed::Done(size)
+    Ok(size)
 }

@@ -5,7 +5,6 @@ ghost use Rattle.printing.specs.Text.{decimal, signed};
 ghost use Rattle.printing.specs.Page.{Prints};
 ghost use Rattle.printing.specs.Put.{PutInRoom};
 
-use super::Printed;
 use refusals::Refusal;
 
 pub fn byte(s: &mut [u8], at: usize, b: u8) -> usize
@@ -34,7 +33,7 @@ pub fn number(s: &mut [u8], at: usize, n: u32) -> usize
     if (at < 21) | (s.len() < at) {
         return at;
     }
-    let i = super::put_decimal(s, at, sums::wide(n));
+    let i = super::put_decimal(s, at, u64::from(n));
     super::put_byte(s, i, b' ')
 }
 
@@ -50,19 +49,20 @@ pub fn signed(s: &mut [u8], at: usize, x: i64) -> usize
 }
 
 // What stands in the scratch from `from` on, at the front of a lent buffer: refusal 11 where it is too short.
-pub fn give(s: &[u8], from: usize, out: &mut [u8]) -> Printed
+pub fn give(s: &[u8], from: usize, out: &mut [u8]) -> Result<usize, Refusal>
     ensures { Prints (refused_unless (leb (length (drop from s.now)) (length out.old)) no_room 0)
         (drop from s.now) out.old result out.new }
 {
     if s.len() < from {
-        return Printed::Done(0);
+        return Ok(0);
     }
-    if out.len() < s.len() - from {
-        return Printed::Refused(Refusal {
+    let text = &s[from..];
+    if out.len() < text.len() {
+        return Err(Refusal {
             number: Refusal::ROOM,
             place: 0,
         });
     }
-    super::copy_out(s, from, out, 0);
-    Printed::Done(s.len() - from)
+    super::copy_out(text, out, 0);
+    Ok(text.len())
 }

@@ -4,7 +4,6 @@
 // A case is a 32-bit length, the low byte first, and that many bytes.
 #![tactic(auto)]
 
-use input::cases::Case;
 use std::io;
 
 // More cases than these are not looked at.
@@ -73,7 +72,7 @@ fn main(rt: HostRuntime) -> io::Result<()> {
     let mut from = rt.reader();
     for number in 0..MOST_CASES {
         let case = input::cases::read_case(&mut from, &mut buf);
-        let Case::Sheet(n) = case else {
+        let Ok(Some(n)) = case else {
             input::cases::complain(&rt, case);
             break;
         };

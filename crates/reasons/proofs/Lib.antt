@@ -6,3 +6,4 @@ pub mod Owned
 pub mod Told
 pub mod Promises
 pub mod Cases
+pub mod Pass

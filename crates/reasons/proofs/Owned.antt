@@ -1,5 +1,6 @@
 -- The passes over all contract rows are the sums over the buyer's own: a row of another buyer adds nothing, and the buyer's own rows stand
 -- in the sheet's order. Assumes nothing.
+use Rattle.std.specs.Prelude.{Ok}
 use Prim.Native.Nat.{ℕ, ◌-◌, ◌≤◌, ◌<◌}
 use native.Mathlib.Omega.{arith}
 use native.Mathlib.Decide.{dec_lt}
@@ -18,7 +19,6 @@ use Rattle.limits.specs.declared.Contract.{Contract}
 use Rattle.sheet.specs.Reading.{read_of}
 use Rattle.sheet.specs.Asking.{contract_at}
 use Rattle.sheet.specs.declared.Counts.{Counts}
-use Rattle.sheet.specs.declared.Reading.{Reading}
 use Rattle.deals.specs.Deals.{Deals, count, kind, price, quantity, demanded, stands, ahead_of, rest_of, cheaper_of, group_of}
 use Rattle.deals.specs.Hour.{Rows, own_count, own_of}
 use Rattle.deals.proofs.Own.{own_place_lem, own_order, count_own, own_kind, own_price, own_rows}
@@ -32,7 +32,7 @@ use Rattle.reasons.specs.Reasons.{contract_reason_by}
 use Rattle.reasons.specs.Parts.{part_total, reason_in}
 use Rattle.reasons.specs.declared.passes.Part.{Part}
 
-module _ (s : List ℕ) (c : Counts) (e : read_of s ≡ Reading.Accepted c) (i : ℕ) (l : i < c.contracts) where
+module _ (s : List ℕ) (c : Counts) (e : read_of s ≡ Ok c) (i : ℕ) (l : i < c.contracts) where
   abbrev sheet : Sheet
   sheet = columns_of s c
 

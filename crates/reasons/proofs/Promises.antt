@@ -1,15 +1,15 @@
 -- WHAT WHO ASKS MAY RELY ON, of every answer of `why_plant` and `why_contract`, for every string of bytes and every number. Their promises
 -- are the equations `r ≡ plant_why bytes i` and `r ≡ contract_why bytes i`: for one question there is one answer. Assumes nothing.
+use Rattle.std.specs.Prelude.{Ok, Err}
 use Prim.Native.Nat.{ℕ, ◌<◌}
 use native.Mathlib.Omega.{arith}
 use mathlib.Core.Bool.{true, false}
 use mathlib.Core.List.{List}
 use mathlib.Core.Path.{◌≡◌, refl, ap, ◌∙◌, sym}
 use Rattle.sums.specs.Lists.{at}
-use Rattle.refusals.specs.declared.Verdict.{Verdict}
+use Rattle.refusals.specs.Refusals.{Verdict}
 use Rattle.refusals.proofs.Fine.{both_fine, fine_left, fine_test}
 use Rattle.sheet.specs.Reading.{read_verdict, read_of, counts_of}
-use Rattle.sheet.specs.declared.Reading.{Reading}
 use Rattle.columns.specs.Columns.{hour_of, sheet_verdict}
 use Rattle.columns.proofs.Columns.{sound}
 use Rattle.hour.specs.Sheet.{plants, contracts}
@@ -22,10 +22,8 @@ use Rattle.reasons.specs.Reasons.{contract_reason, contract_case, buyer_of, own_
 use Rattle.reasons.specs.Reasons.{plant_told, plant_why, contract_told, contract_why, PlantSays, ContractSays, StandsAhead}
 use Rattle.reasons.specs.declared.PlantReason.{PlantReason}
 use Rattle.reasons.specs.declared.PlantCase.{PlantCase}
-use Rattle.reasons.specs.declared.PlantWhy.{PlantWhy}
 use Rattle.reasons.specs.declared.ContractReason.{ContractReason}
 use Rattle.reasons.specs.declared.ContractCase.{ContractCase}
-use Rattle.reasons.specs.declared.ContractWhy.{ContractWhy}
 use Rattle.reasons.proofs.Asked.{why_there}
 use Rattle.reasons.proofs.Plants.{plant_holds_lem, plant_first, plant_says}
 use Rattle.reasons.proofs.Plants as plant
@@ -33,44 +31,44 @@ use Rattle.reasons.proofs.Deals.{contract_only}
 use Rattle.reasons.proofs.Deals as deal
 
 -- a sheet that nothing turns away is sound
-fine_sound : (bytes : List ℕ) → sheet_verdict bytes ≡ Verdict.Fine → Sound (hour_of bytes)
+fine_sound : (bytes : List ℕ) → sheet_verdict bytes ≡ Ok tt → Sound (hour_of bytes)
 unfolding sheet_verdict hour_of read_of
 fine_sound bytes e = sound bytes (counts_of bytes) read
   where
-    read : read_of bytes ≡ Reading.Accepted (counts_of bytes)
+    read : read_of bytes ≡ Ok (counts_of bytes)
     read = rw (fine_left (read_verdict bytes) _ e)
 
 -- of a sheet that settles, whoever is there is told a reason
-pub plant_answered : (bytes : List ℕ) (i : ℕ) → sheet_verdict bytes ≡ Verdict.Fine → i < plants (hour_of bytes)
-    → plant_why bytes i ≡ PlantWhy.Because (plant_case (hour_of bytes) i)
+pub plant_answered : (bytes : List ℕ) (i : ℕ) → sheet_verdict bytes ≡ Ok tt → i < plants (hour_of bytes)
+    → plant_why bytes i ≡ Ok (plant_case (hour_of bytes) i)
 unfolding plant_why
 plant_answered bytes i e l = rw (why_there bytes (plants (hour_of bytes)) i e l)
 
-pub contract_answered : (bytes : List ℕ) (j : ℕ) → sheet_verdict bytes ≡ Verdict.Fine → j < contracts (hour_of bytes)
-    → contract_why bytes j ≡ ContractWhy.Because (contract_case (hour_of bytes) j)
+pub contract_answered : (bytes : List ℕ) (j : ℕ) → sheet_verdict bytes ≡ Ok tt → j < contracts (hour_of bytes)
+    → contract_why bytes j ≡ Ok (contract_case (hour_of bytes) j)
 unfolding contract_why
 contract_answered bytes j e l = rw (why_there bytes (contracts (hour_of bytes)) j e l)
 
 -- and who is told one is there
-passed : (bytes : List ℕ) (n i : ℕ) → why_verdict bytes n i ≡ Verdict.Fine → (sheet_verdict bytes ≡ Verdict.Fine) × (i < n)
+passed : (bytes : List ℕ) (n i : ℕ) → why_verdict bytes n i ≡ Ok tt → (sheet_verdict bytes ≡ Ok tt) × (i < n)
 unfolding why_verdict
 passed bytes n i e =
     let h = both_fine (sheet_verdict bytes) _ e in
     (h.0, ltb-true i n (fine_test _ _ _ (fine_left _ _ h.1)))
 
-plant_fine : (v : Verdict) (o k : PlantCase) → plant_told v o ≡ PlantWhy.Because k → (v ≡ Verdict.Fine) × (o ≡ k)
-plant_fine Verdict.Fine o k e = (refl, cc)
-plant_fine (Verdict.Refused r) o k e = let z : ◌≡◌ {A = ℕ} 0 1 = cc in let no : ⊥ = omega arith in absurd no
+plant_fine : (v : Verdict) (o k : PlantCase) → plant_told v o ≡ Ok k → (v ≡ Ok tt) × (o ≡ k)
+plant_fine (Ok tt) o k e = (refl, cc)
+plant_fine (Err r) o k e = let z : ◌≡◌ {A = ℕ} 0 1 = cc in let no : ⊥ = omega arith in absurd no
 
 contract_fine : (v : Verdict) (o k : ContractCase)
-    → contract_told v o ≡ ContractWhy.Because k
-    → (v ≡ Verdict.Fine) × (o ≡ k)
-contract_fine Verdict.Fine o k e = (refl, cc)
-contract_fine (Verdict.Refused r) o k e = let z : ◌≡◌ {A = ℕ} 0 1 = cc in let no : ⊥ = omega arith in absurd no
+    → contract_told v o ≡ Ok k
+    → (v ≡ Ok tt) × (o ≡ k)
+contract_fine (Ok tt) o k e = (refl, cc)
+contract_fine (Err r) o k e = let z : ◌≡◌ {A = ℕ} 0 1 = cc in let no : ⊥ = omega arith in absurd no
 
 -- ---- A PLANT THAT IS TOLD A REASON
-module _ (bytes : List ℕ) (i : ℕ) (k : PlantCase) (told : plant_why bytes i ≡ PlantWhy.Because k) where
-  known : (why_verdict bytes (plants (hour_of bytes)) i ≡ Verdict.Fine) × (plant_case (hour_of bytes) i ≡ k)
+module _ (bytes : List ℕ) (i : ℕ) (k : PlantCase) (told : plant_why bytes i ≡ Ok k) where
+  known : (why_verdict bytes (plants (hour_of bytes)) i ≡ Ok tt) × (plant_case (hour_of bytes) i ≡ k)
   unfolding plant_why
   known = plant_fine (why_verdict bytes (plants (hour_of bytes)) i) (plant_case (hour_of bytes) i) k told
 
@@ -102,8 +100,8 @@ module _ (bytes : List ℕ) (i : ℕ) (k : PlantCase) (told : plant_why bytes i 
 
 -- PARTLY SCHEDULED, THE LAST ONE NEEDED: at most one plant of a sheet is told so, whatever the must-runs;
 pub last_once : (bytes : List ℕ) (i j : ℕ) (k o : PlantCase)
-    → plant_why bytes i ≡ PlantWhy.Because k
-    → plant_why bytes j ≡ PlantWhy.Because o
+    → plant_why bytes i ≡ Ok k
+    → plant_why bytes j ≡ Ok o
     → k.reason ≡ PlantReason.Last
     → o.reason ≡ PlantReason.Last
     → i ≡ j
@@ -111,7 +109,7 @@ last_once bytes i j k o e f x y =
     plant.last_once (hour_of bytes) (ok bytes i k e) i (plant_is_there bytes i k e) (last_is bytes i k e x) j
     (plant_is_there bytes j o f) (last_is bytes j o f y)
 
-module _ (bytes : List ℕ) (i : ℕ) (k : PlantCase) (told : plant_why bytes i ≡ PlantWhy.Because k)
+module _ (bytes : List ℕ) (i : ℕ) (k : PlantCase) (told : plant_why bytes i ≡ Ok k)
     (last : k.reason ≡ PlantReason.Last) (j : ℕ) (l : j < plants (hour_of bytes)) where
   -- every plant that stands ahead of it is scheduled to the full,
   pub last_full : StandsAhead (hour_of bytes) j i → scheduled (hour_of bytes) j ≡ at (hour_of bytes).available j
@@ -125,8 +123,8 @@ module _ (bytes : List ℕ) (i : ℕ) (k : PlantCase) (told : plant_why bytes i 
       l
 
 -- ---- A CONTRACT THAT IS TOLD A REASON
-module _ (bytes : List ℕ) (j : ℕ) (k : ContractCase) (told : contract_why bytes j ≡ ContractWhy.Because k) where
-  found : (why_verdict bytes (contracts (hour_of bytes)) j ≡ Verdict.Fine) × (contract_case (hour_of bytes) j ≡ k)
+module _ (bytes : List ℕ) (j : ℕ) (k : ContractCase) (told : contract_why bytes j ≡ Ok k) where
+  found : (why_verdict bytes (contracts (hour_of bytes)) j ≡ Ok tt) × (contract_case (hour_of bytes) j ≡ k)
   unfolding contract_why
   found = contract_fine (why_verdict bytes (contracts (hour_of bytes)) j) (contract_case (hour_of bytes) j) k told
 

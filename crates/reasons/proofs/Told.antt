@@ -1,4 +1,5 @@
 -- What the code puts together is the answer: the row asked for is the sheet's, with its schedule or amount. Assumes nothing.
+use Rattle.std.specs.Prelude.{Ok, Err}
 use Prim.Native.Nat.{ℕ, ◌≤◌, ◌<◌}
 use native.Mathlib.Omega.{arith}
 use mathlib.Core.Bool.{true}
@@ -7,13 +8,11 @@ use mathlib.Core.Path.{◌≡◌, ap, ◌∙◌, sym}
 use Rattle.sums.specs.Lists.{at}
 use Rattle.refusals.specs.Refusals.{not_there, refusal}
 use Rattle.refusals.specs.declared.Refusal.{Refusal}
-use Rattle.refusals.specs.declared.Verdict.{Verdict}
 use Rattle.limits.specs.declared.Plant.{Plant}
 use Rattle.limits.specs.declared.Contract.{Contract}
 use Rattle.sheet.specs.Reading.{read_of}
 use Rattle.sheet.specs.Asking.{plant_at, contract_at}
 use Rattle.sheet.specs.declared.Counts.{Counts}
-use Rattle.sheet.specs.declared.Reading.{Reading}
 use Rattle.columns.specs.Columns.{columns_of, hour_of, sheet_verdict}
 use Rattle.columns.proofs.Columns.{plants_long, contracts_long, sound, hour_is, must_at}
 use Rattle.columns.proofs.Columns.{offer_at, available_at, buyer_at, price_at_lem, quantity_at_lem}
@@ -27,28 +26,26 @@ use Rattle.reasons.specs.Reasons.{contract_case, plant_why, contract_why}
 use Rattle.reasons.specs.Parts.{HourSettled, reason_in}
 use Rattle.reasons.specs.declared.PlantReason.{PlantReason}
 use Rattle.reasons.specs.declared.PlantCase.{PlantCase}
-use Rattle.reasons.specs.declared.PlantWhy.{PlantWhy}
 use Rattle.reasons.specs.declared.ContractReason.{ContractReason}
 use Rattle.reasons.specs.declared.ContractCase.{ContractCase}
-use Rattle.reasons.specs.declared.ContractWhy.{ContractWhy}
 use Rattle.reasons.proofs.Asked.{why_refused, why_unread, why_absent, why_there}
 use Rattle.reasons.proofs.Owned.{reason_is}
 
 -- ---- turned away
 module _ (bytes : List ℕ) (i : ℕ) where
-  pub plant_refused : (q : Refusal) → sheet_verdict bytes ≡ Verdict.Refused q → PlantWhy.Refused q ≡ plant_why bytes i
+  pub plant_refused : (q : Refusal) → sheet_verdict bytes ≡ Err q → Err q ≡ plant_why bytes i
   unfolding plant_why
   plant_refused q e = rw (why_refused bytes (plants (hour_of bytes)) i q e)
 
-  pub plant_unread : (q : Refusal) → read_of bytes ≡ Reading.Refused q → PlantWhy.Refused q ≡ plant_why bytes i
+  pub plant_unread : (q : Refusal) → read_of bytes ≡ Err q → Err q ≡ plant_why bytes i
   unfolding plant_why
   plant_unread q e = rw (why_unread bytes (plants (hour_of bytes)) i q e)
 
-  pub contract_refused : (q : Refusal) → sheet_verdict bytes ≡ Verdict.Refused q → ContractWhy.Refused q ≡ contract_why bytes i
+  pub contract_refused : (q : Refusal) → sheet_verdict bytes ≡ Err q → Err q ≡ contract_why bytes i
   unfolding contract_why
   contract_refused q e = rw (why_refused bytes (contracts (hour_of bytes)) i q e)
 
-  pub contract_unread : (q : Refusal) → read_of bytes ≡ Reading.Refused q → ContractWhy.Refused q ≡ contract_why bytes i
+  pub contract_unread : (q : Refusal) → read_of bytes ≡ Err q → Err q ≡ contract_why bytes i
   unfolding contract_why
   contract_unread q e = rw (why_unread bytes (contracts (hour_of bytes)) i q e)
 
@@ -69,8 +66,8 @@ same_deal : (w w' : ContractReason) (q q' x x' p p' : ℕ)
 same_deal w w' q q' x x' p p' h1 h2 h3 h4 = rw (h1, h2, h3, h4)
 
 -- ---- of an accepted sheet that nothing turns away
-module _ (bytes : List ℕ) (c : Counts) (e : read_of bytes ≡ Reading.Accepted c)
-    (fine : sheet_verdict bytes ≡ Verdict.Fine) (i : ℕ) where
+module _ (bytes : List ℕ) (c : Counts) (e : read_of bytes ≡ Ok c)
+    (fine : sheet_verdict bytes ≡ Ok tt) (i : ℕ) where
   hour : hour_of bytes ≡ columns_of bytes c
   hour = hour_is bytes c e
 
@@ -80,11 +77,11 @@ module _ (bytes : List ℕ) (c : Counts) (e : read_of bytes ≡ Reading.Accepted
   contract_count : contracts (hour_of bytes) ≡ c.contracts
   contract_count = rw hour (contracts_long bytes c)
 
-  pub plant_absent : c.plants ≤ i → PlantWhy.Refused (refusal not_there i) ≡ plant_why bytes i
+  pub plant_absent : c.plants ≤ i → Err (refusal not_there i) ≡ plant_why bytes i
   unfolding plant_why
   plant_absent l = rw (why_absent bytes (plants (hour_of bytes)) i fine (omega (arith, plant_count_lem)))
 
-  pub contract_absent : c.contracts ≤ i → ContractWhy.Refused (refusal not_there i) ≡ contract_why bytes i
+  pub contract_absent : c.contracts ≤ i → Err (refusal not_there i) ≡ contract_why bytes i
   unfolding contract_why
   contract_absent l = rw (why_absent bytes (contracts (hour_of bytes)) i fine (omega (arith, contract_count)))
 
@@ -126,11 +123,11 @@ module _ (bytes : List ℕ) (c : Counts) (e : read_of bytes ≡ Reading.Accepted
   pub plant_told_lem : (l : i < c.plants) (p : Plant) → p ≡ plant_at bytes c i
       → (q x : ℕ) → q ≡ scheduled (hour_of bytes) i → x ≡ bolsa_price (hour_of bytes)
       → (w : PlantReason) → w ≡ plant_reason_by q p.must p.availability
-      → PlantWhy.Because (case_of w q p.availability p.must p.price x) ≡ plant_why bytes i
+      → Ok (case_of w q p.availability p.must p.price x) ≡ plant_why bytes i
   unfolding plant_why plant_case plant_reason
   plant_told_lem l p ep q x eq ex w ew =
       rw (why_there bytes (plants (hour_of bytes)) i fine (plant_there l))
-      (ap PlantWhy.Because
+      (ap Ok
       (same_plant w _ q _ p.availability _ p.must _ p.price _ x _
       (ew ∙ rw (eq, available, must)) eq available must offer ex))
     where
@@ -147,11 +144,11 @@ module _ (bytes : List ℕ) (c : Counts) (e : read_of bytes ≡ Reading.Accepted
   pub contract_told_lem : (l : i < c.contracts) (k : Contract) → k ≡ contract_at bytes c i
       → (x d : ℕ) → x ≡ amount (hour_of bytes) i → d ≡ commercial (hour_of bytes) k.buyer
       → (w : ContractReason) → w ≡ reason_in bytes c k i d
-      → ContractWhy.Because (deal_case w k.quantity x k.price) ≡ contract_why bytes i
+      → Ok (deal_case w k.quantity x k.price) ≡ contract_why bytes i
   unfolding contract_why contract_case contract_reason
   contract_told_lem l k ek x d ex ed w ew =
       rw (why_there bytes (contracts (hour_of bytes)) i fine (contract_there l))
-      (ap ContractWhy.Because (same_deal w _ k.quantity _ x _ k.price _ (ew ∙ reason) quantity ex price))
+      (ap Ok (same_deal w _ k.quantity _ x _ k.price _ (ew ∙ reason) quantity ex price))
     where
       quantity : k.quantity ≡ at (hour_of bytes).deals.quantities i
       quantity = rw (ek, hour) (sym (quantity_at_lem bytes c i l))

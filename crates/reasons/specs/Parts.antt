@@ -1,9 +1,9 @@
 -- How the code goes about it: the hour settled with lists of its own, and the passes over the contract rows. Assumes nothing.
+use Rattle.std.specs.Prelude.{Ok}
 use Rattle.std.specs.Prelude.{ℕ, ◌-◌, ◌<◌, Bool, ◌&&◌, cond, List, ◌≡◌, ltb, eqb}
 use Rattle.sums.specs.Sums.{sum, pick}
 use Rattle.sums.specs.Lists.{at, Filled}
 use Rattle.refusals.specs.Refusals.{cells}
-use Rattle.refusals.specs.declared.Verdict.{Verdict}
 use Rattle.limits.specs.declared.Contract.{Contract}
 use Rattle.sheet.specs.Asking.{contract_at}
 use Rattle.sheet.specs.declared.Counts.{Counts}
@@ -20,7 +20,7 @@ use Rattle.reasons.specs.declared.ContractReason.{ContractReason}
 -- the hour settled: its summary, and what its lists hold, os of own energy, s of the schedule and a of the amounts before it
 pub record HourSettled (bytes os s s' a a' : List ℕ) (r : Summary) : Type 0 where
   pub answer : r ≡ summary_of (sheet_verdict bytes) (hour_of bytes)
-  pub own : sheet_verdict bytes ≡ Verdict.Fine → (b : ℕ) → b < agents (hour_of bytes) → at os b ≡ own (hour_of bytes) b
+  pub own : sheet_verdict bytes ≡ Ok tt → (b : ℕ) → b < agents (hour_of bytes) → at os b ≡ own (hour_of bytes) b
   pub schedule : Filled 0 s s' (cells (sheet_verdict bytes) (plants (hour_of bytes))) (scheduled (hour_of bytes))
   pub amounts : Filled 0 a a' (cells (sheet_verdict bytes) (contracts (hour_of bytes))) (amount (hour_of bytes))
 

@@ -1,9 +1,11 @@
 -- Document 02, P3, 'Why did I get this?': the reasons of plants and contracts, over the schedule and the amounts of document 01.
 -- Assumes nothing.
+use Rattle.std.specs.Prelude.{Result, Ok, Err}
+use Rattle.refusals.specs.declared.Refusal.{Refusal}
 use Rattle.std.specs.Prelude.{ℕ, ◌+◌, ◌-◌, ◌≤◌, ◌<◌, Bool, ◌&&◌, cond, List, [], ◌∷◌, ◌≡◌, ◌⊎◌, leb, ltb, eqb}
 use Rattle.sums.specs.Lists.{at, total}
 use Rattle.refusals.specs.Refusals.{not_there, refused_unless, first_of}
-use Rattle.refusals.specs.declared.Verdict.{Verdict}
+use Rattle.refusals.specs.Refusals.{Verdict}
 use Rattle.share.specs.Share.{share_of}
 use Rattle.deals.specs.Deals.{Deals, kind, price, quantity, fixed, conditional, demanded, ahead_of, rest_of, cheaper_of, group_of}
 use Rattle.deals.specs.Hour.{own_count, own_of}
@@ -13,12 +15,10 @@ use Rattle.hour.specs.Lines.{scheduled, bolsa_price, amount}
 use Rattle.columns.specs.Columns.{hour_of, sheet_verdict}
 use Rattle.reasons.specs.declared.PlantReason.{PlantReason}
 use Rattle.reasons.specs.declared.PlantCase.{PlantCase}
-use Rattle.reasons.specs.declared.PlantWhy.{PlantWhy}
 use Rattle.reasons.specs.declared.Ahead.{Ahead}
 use Rattle.reasons.specs.declared.Group.{Group}
 use Rattle.reasons.specs.declared.ContractReason.{ContractReason}
 use Rattle.reasons.specs.declared.ContractCase.{ContractCase}
-use Rattle.reasons.specs.declared.ContractWhy.{ContractWhy}
 
 -- ---- plants
 
@@ -167,18 +167,18 @@ contract_case s j =
 unfoldable pub why_verdict : List ℕ → (n i : ℕ) → Verdict
 why_verdict bytes n i = first_of (sheet_verdict bytes ∷ refused_unless (ltb i n) not_there i ∷ [])
 
-abbrev pub plant_told : Verdict → PlantCase → PlantWhy
-plant_told Verdict.Fine k = PlantWhy.Because k
-plant_told (Verdict.Refused r) k = PlantWhy.Refused r
+abbrev pub plant_told : Verdict → PlantCase → Result PlantCase Refusal
+plant_told (Ok tt) k = Ok k
+plant_told (Err r) k = Err r
 
-unfoldable pub plant_why : List ℕ → ℕ → PlantWhy
+unfoldable pub plant_why : List ℕ → ℕ → Result PlantCase Refusal
 plant_why bytes i = plant_told (why_verdict bytes (plants (hour_of bytes)) i) (plant_case (hour_of bytes) i)
 
-abbrev pub contract_told : Verdict → ContractCase → ContractWhy
-contract_told Verdict.Fine k = ContractWhy.Because k
-contract_told (Verdict.Refused r) k = ContractWhy.Refused r
+abbrev pub contract_told : Verdict → ContractCase → Result ContractCase Refusal
+contract_told (Ok tt) k = Ok k
+contract_told (Err r) k = Err r
 
-unfoldable pub contract_why : List ℕ → ℕ → ContractWhy
+unfoldable pub contract_why : List ℕ → ℕ → Result ContractCase Refusal
 contract_why bytes j = contract_told (why_verdict bytes (contracts (hour_of bytes)) j) (contract_case (hour_of bytes) j)
 
 -- ---- what a reason says of the schedule q of a plant with the must-run m and the availability a: nothing, all, just its must-run, more

@@ -5,7 +5,6 @@
 ghost use Rattle.std.specs.Prelude.{◌≡◌, ◌≤◌, length};
 ghost use Rattle.limits.specs.Limits.{most_plants, most_contracts};
 ghost use Rattle.sheet.specs.Reading.{read_of};
-ghost use Rattle.sheet.specs.declared.Reading.{Reading};
 ghost use Rattle.reasons.specs.Reasons.{plant_reason_number, contract_reason_number, plant_reason_by, plant_why, contract_why};
 ghost use Rattle.balance.specs.Balances.{zeros};
 ghost use Rattle.reasons.specs.Parts.{HourSettled};
@@ -13,7 +12,7 @@ ghost use Rattle.reasons.specs.Parts.{HourSettled};
 use hour::Summary;
 use limits::{Agent, Contract, Plant};
 use refusals::Refusal;
-use sheet::{Counts, Reading};
+use sheet::Counts;
 
 mod passes;
 
@@ -41,12 +40,6 @@ pub struct PlantCase {
     pub must: u32,
     pub offer: u32,
     pub price: u32,
-}
-
-#[derive(Clone, Copy)]
-pub enum PlantWhy {
-    Because(PlantCase),
-    Refused(Refusal),
 }
 
 // The quantities ahead of a conditional contract, and its buyer's commercial demand.
@@ -88,13 +81,7 @@ pub struct ContractCase {
     pub price: u32,
 }
 
-#[derive(Clone, Copy)]
-pub enum ContractWhy {
-    Because(ContractCase),
-    Refused(Refusal),
-}
-
-// The number that a reason is told by.
+// The number that a reason is told by: the C interface tells numbers.
 pub fn plant_number(reason: PlantReason) -> u32
     ensures { result ≡ plant_reason_number reason }
 {
@@ -121,6 +108,7 @@ pub fn contract_number(reason: ContractReason) -> u32
 }
 
 // The first reason that holds of a plant with this schedule, must-run and availability.
+#[tactic(auto, unfolding(crate::specs::Reasons::plant_reason_by))]
 fn judge_plant(scheduled: u32, must: u32, available: u32) -> PlantReason
     ensures { result ≡ plant_reason_by scheduled must available }
 {
@@ -149,7 +137,7 @@ fn settle_hour(
     schedule: &mut [u32],
     amounts: &mut [u32],
 ) -> Summary
-    requires bytes_value { read_of bytes.now ≡ Reading.Accepted c }
+    requires bytes_value { read_of bytes.now ≡ Ok c }
     requires own_value { (own.old ≡ zeros) × (most_plants ≤ length schedule.old) × (most_contracts ≤ length amounts.old) }
     ensures { HourSettled bytes.now own.new schedule.old schedule.new
         amounts.old amounts.new result }
@@ -172,29 +160,30 @@ fn settle_hour(
 }
 
 // Of an accepted sheet.
-fn why_plant_read(bytes: &[u8], c: Counts, plant: u32) -> PlantWhy
-    requires { read_of bytes.now ≡ Reading.Accepted c }
+fn why_plant_read(bytes: &[u8], c: Counts, plant: u32) -> Result<PlantCase, Refusal>
+    requires { read_of bytes.now ≡ Ok c }
     ensures { result ≡ plant_why bytes.now plant }
 {
     let mut schedule = [0u32; Plant::MOST];
     let mut amounts = [0u32; Contract::MOST];
     let mut own = [0u32; Agent::MOST];
     let hour = settle_hour(bytes, c, &mut own, &mut schedule, &mut amounts);
+    // the C interface tells the summary by its number, 0 for a settled hour: `Summary` is flat
     if hour.number != 0 {
-        return PlantWhy::Refused(Refusal {
+        return Err(Refusal {
             number: hour.number,
             place: hour.place,
         });
     }
     let i = plant as usize;
     if c.plants <= i {
-        return PlantWhy::Refused(Refusal {
+        return Err(Refusal {
             number: Refusal::ASKED,
             place: plant,
         });
     }
     let p = rows::plant_of(octets::row_at(bytes, c.agents + c.boundaries + i));
-    PlantWhy::Because(PlantCase {
+    Ok(PlantCase {
         reason: judge_plant(schedule[i], p.must, p.availability),
         scheduled: schedule[i],
         available: p.availability,
@@ -205,39 +194,38 @@ fn why_plant_read(bytes: &[u8], c: Counts, plant: u32) -> PlantWhy
 }
 
 // Why a plant is scheduled as it is, for every string of bytes and every number.
-pub fn why_plant(bytes: &[u8], plant: u32) -> PlantWhy
+pub fn why_plant(bytes: &[u8], plant: u32) -> Result<PlantCase, Refusal>
     ensures { result ≡ plant_why bytes.now plant }
 {
-    match sheet::read(bytes) {
-        Reading::Accepted(c) => why_plant_read(bytes, c, plant),
-        Reading::Refused(why) => PlantWhy::Refused(why),
-    }
+    let c = sheet::read(bytes)?;
+    why_plant_read(bytes, c, plant)
 }
 
 // Of an accepted sheet.
-fn why_contract_read(bytes: &[u8], c: Counts, contract: u32) -> ContractWhy
-    requires { read_of bytes.now ≡ Reading.Accepted c }
+fn why_contract_read(bytes: &[u8], c: Counts, contract: u32) -> Result<ContractCase, Refusal>
+    requires { read_of bytes.now ≡ Ok c }
     ensures { result ≡ contract_why bytes.now contract }
 {
     let mut schedule = [0u32; Plant::MOST];
     let mut amounts = [0u32; Contract::MOST];
     let mut own = [0u32; Agent::MOST];
     let hour = settle_hour(bytes, c, &mut own, &mut schedule, &mut amounts);
+    // the C interface tells the summary by its number, 0 for a settled hour: `Summary` is flat
     if hour.number != 0 {
-        return ContractWhy::Refused(Refusal {
+        return Err(Refusal {
             number: hour.number,
             place: hour.place,
         });
     }
     let j = contract as usize;
     if c.contracts <= j {
-        return ContractWhy::Refused(Refusal {
+        return Err(Refusal {
             number: Refusal::ASKED,
             place: contract,
         });
     }
     let k = rows::contract_of(octets::row_at(bytes, c.agents + c.boundaries + c.plants + j));
-    ContractWhy::Because(ContractCase {
+    Ok(ContractCase {
         reason: passes::judge(bytes, c, k, j, own[k.buyer as usize]),
         quantity: k.quantity,
         amount: amounts[j],
@@ -246,11 +234,9 @@ fn why_contract_read(bytes: &[u8], c: Counts, contract: u32) -> ContractWhy
 }
 
 // Why a contract is assigned its amount, for every string of bytes and every number.
-pub fn why_contract(bytes: &[u8], contract: u32) -> ContractWhy
+pub fn why_contract(bytes: &[u8], contract: u32) -> Result<ContractCase, Refusal>
     ensures { result ≡ contract_why bytes.now contract }
 {
-    match sheet::read(bytes) {
-        Reading::Accepted(c) => why_contract_read(bytes, c, contract),
-        Reading::Refused(why) => ContractWhy::Refused(why),
-    }
+    let c = sheet::read(bytes)?;
+    why_contract_read(bytes, c, contract)
 }

@@ -1,8 +1,7 @@
 // The reason of one contract: what stands before it, and what its price group asks, each summed in a pass over the contract rows.
-ghost use Rattle.std.specs.Prelude.{◌≡◌, ◌<◌};
+ghost use Rattle.std.specs.Prelude.{◌≡◌};
 ghost use Rattle.deals.specs.Deals.{stands};
 ghost use Rattle.sheet.specs.Reading.{read_of};
-ghost use Rattle.sheet.specs.declared.Reading.{Reading};
 ghost use Rattle.reasons.specs.Reasons.{conditional_reason, demanded_reason};
 ghost use Rattle.reasons.specs.Parts.{counted, counted_part, part_total, reason_in};
 
@@ -24,6 +23,7 @@ pub(crate) enum Part {
 }
 
 // Row j stands before row i: by rising price, kind 1 first at equal price, then the lower row.
+#[tactic(auto, unfolding(deals::specs::Deals::stands))]
 fn stands_before(k: Contract, j: usize, me: Contract, i: usize) -> bool
     ensures { result ≡ stands k.price k.kind j me.price me.kind i }
 {
@@ -44,6 +44,7 @@ fn counts(part: Part, me: Contract, i: usize, k: Contract, j: usize) -> bool
     }
 }
 
+#[tactic(auto, unfolding(sums::specs::Sums::pick))]
 fn part_of(part: Part, me: Contract, i: usize, k: Contract, j: usize) -> u32
     ensures { result ≡ counted_part part me i k j }
 {
@@ -56,17 +57,14 @@ fn part_of(part: Part, me: Contract, i: usize, k: Contract, j: usize) -> u32
 
 // One pass over the contract rows of an accepted sheet.
 fn pass(bytes: &[u8], c: Counts, part: Part, me: Contract, i: usize) -> u32
-    requires { read_of bytes.now ≡ Reading.Accepted c }
+    requires { read_of bytes.now ≡ Ok c }
     ensures { result ≡ part_total bytes.now c part me i }
 {
     let start = c.agents + c.boundaries + c.plants;
-    let n = c.contracts;
     let mut sum = 0;
-    let mut j = 0;
-    while j < n {
+    for j in 0..c.contracts {
         let k = rows::contract_of(octets::row_at(bytes, start + j));
         sum += part_of(part, me, i, k, j);
-        j += 1;
     }
     sum
 }
@@ -86,7 +84,7 @@ fn of_conditional(ahead: u32, demand: u32) -> ContractReason
 fn of_demanded(rest: u32, cheaper: u32, total: u32) -> ContractReason
     ensures { result ≡ demanded_reason rest cheaper total }
 {
-    let remainder = sums::less(rest, cheaper);
+    let remainder = rest.saturating_sub(cheaper);
     if rest < cheaper {
         return ContractReason::Dearer(Group { remainder, total });
     }
@@ -97,8 +95,9 @@ fn of_demanded(rest: u32, cheaper: u32, total: u32) -> ContractReason
 }
 
 // The reason of the contract `me` in row i of an accepted sheet, whose buyer has this demand.
+#[tactic(auto, unfolding(crate::specs::Parts::reason_in))]
 pub(crate) fn judge(bytes: &[u8], c: Counts, me: Contract, i: usize, demand: u32) -> ContractReason
-    requires { read_of bytes.now ≡ Reading.Accepted c }
+    requires { read_of bytes.now ≡ Ok c }
     ensures { result ≡ reason_in bytes.now c me i demand }
 {
     if me.kind == Contract::FIXED {
@@ -107,7 +106,7 @@ pub(crate) fn judge(bytes: &[u8], c: Counts, me: Contract, i: usize, demand: u32
     if me.kind == Contract::CONDITIONAL {
         return of_conditional(pass(bytes, c, Part::Ahead, me, i), demand);
     }
-    let rest = sums::less(demand, pass(bytes, c, Part::Firm, me, i));
+    let rest = demand.saturating_sub(pass(bytes, c, Part::Firm, me, i));
     let cheaper = pass(bytes, c, Part::Cheaper, me, i);
     let total = pass(bytes, c, Part::Group, me, i);
     of_demanded(rest, cheaper, total)

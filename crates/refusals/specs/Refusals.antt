@@ -1,7 +1,6 @@
 -- Document 01, 'When the sheet is turned away': the numbers, and the first refusal of several. Assumes nothing.
-use Rattle.std.specs.Prelude.{ℕ, zero, suc, Bool, cond, List, [], ◌∷◌}
+use Rattle.std.specs.Prelude.{ℕ, zero, suc, Bool, cond, List, [], ◌∷◌, Result, Ok, Err}
 use Rattle.refusals.specs.declared.Refusal.{Refusal}
-use Rattle.refusals.specs.declared.Verdict.{Verdict}
 
 -- 1: the length is under 32, over the longest sheet's, or not a multiple of 16
 abbrev pub bad_length : ℕ
@@ -72,37 +71,41 @@ bad_amounts = 24
 abbrev pub bad_lines : ℕ
 bad_lines = 25
 
+-- what a check answers: it is fine, or refused
+abbrev pub Verdict : Type 0
+Verdict = Result (Unit {0}) Refusal
+
 abbrev pub refusal : ℕ → ℕ → Refusal
 refusal number place = record { number = number; place = place }
 
 abbrev pub refused : ℕ → ℕ → Verdict
-refused number place = Verdict.Refused (refusal number place)
+refused number place = Err (refusal number place)
 
 -- the refusal, unless the test holds
 abbrev pub refused_unless : Bool → ℕ → ℕ → Verdict
-refused_unless ok number place = cond ok Verdict.Fine (refused number place)
+refused_unless ok number place = cond ok (Ok tt) (refused number place)
 
 -- the first refusal of two
 abbrev pub or_else : Verdict → Verdict → Verdict
-or_else Verdict.Fine v = v
-or_else (Verdict.Refused r) v = Verdict.Refused r
+or_else (Ok tt) v = v
+or_else (Err r) v = Err r
 
 -- the first refusal of a list, in the list's order
 abbrev pub first_of : List Verdict → Verdict
-first_of [] = Verdict.Fine
+first_of [] = Ok tt
 first_of (v ∷ vs) = or_else v (first_of vs)
 
 -- the first refusal that f gives to one of the n rows from i on
 unfoldable pub first_bad : (ℕ → Verdict) → ℕ → ℕ → Verdict
-first_bad f i zero = Verdict.Fine
+first_bad f i zero = Ok tt
 first_bad f i (suc n) = or_else (f i) (first_bad f (suc i) n)
 
 -- how many cells of a lent list are written: n where all is fine, none where it is refused
 abbrev pub cells : Verdict → ℕ → ℕ
-cells Verdict.Fine n = n
-cells (Verdict.Refused r) n = 0
+cells (Ok tt) n = n
+cells (Err r) n = 0
 
 -- the number and the place that a verdict is told by: 0 and 0 where all is fine
 abbrev pub number_of : Verdict → ℕ
-number_of Verdict.Fine = 0
-number_of (Verdict.Refused r) = r.number
+number_of (Ok tt) = 0
+number_of (Err r) = r.number

@@ -2,9 +2,10 @@
 #![tactic(auto)]
 
 ghost use Rattle.std.specs.Prelude.{◌≡◌};
-ghost use Rattle.refusals.specs.Refusals.{refused};
+ghost use Rattle.refusals.specs.Refusals.{refused, refused_unless};
 
-// A refusal's number, and the row, agent or number asked for that it speaks of.
+// A refusal's number, and the row, agent or number asked for that it speaks of. A number and no enum: `refuse` takes any number, and an
+// hour's entry hands back whichever number the summary has that a caller gives (`entry::entry_of`).
 #[derive(Clone, Copy)]
 pub struct Refusal {
     pub number: u32,
@@ -52,14 +53,17 @@ impl Refusal {
 }
 
 // What a check answers.
-#[derive(Clone, Copy)]
-pub enum Verdict {
-    Fine,
-    Refused(Refusal),
-}
+pub type Verdict = Result<(), Refusal>;
 
 pub fn refuse(number: u32, place: u32) -> Verdict
     ensures { result ≡ refused number place }
 {
-    Verdict::Refused(Refusal { number, place })
+    Err(Refusal { number, place })
+}
+
+// The refusal, unless the test holds.
+pub fn refuse_unless(ok: bool, number: u32, place: u32) -> Verdict
+    ensures { result ≡ refused_unless ok number place }
+{
+    if ok { Ok(()) } else { refuse(number, place) }
 }

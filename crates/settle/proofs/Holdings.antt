@@ -1,4 +1,5 @@
 -- The contracts of an accepted sheet, from the bytes of their section: what each of them gets, and what each agent holds. Assumes nothing.
+use Rattle.std.specs.Prelude.{Ok}
 use Prim.Native.Nat.{ℕ, ◌+◌, ◌*◌, ◌≤◌, ◌<◌}
 use native.Mathlib.Omega.{arith}
 use native.Mathlib.Decide.{dec_lt}
@@ -11,7 +12,7 @@ use Rattle.sums.proofs.Keyed.{keyed_absent, keyed_eq, keyed_most, keyed_beside}
 use Rattle.sums.proofs.Lists.{length_list_to, list_to_eq, zeros_at}
 use Rattle.sums.proofs.Fill.{filled_count, filled_none, filled_by}
 use Rattle.refusals.specs.Refusals.{cells}
-use Rattle.refusals.specs.declared.Verdict.{Verdict}
+use Rattle.refusals.specs.Refusals.{Verdict}
 use Rattle.limits.specs.Limits.{most_agents, most_quantity}
 use Rattle.rows.specs.Rows.{contract_of}
 use Rattle.limits.specs.declared.Contract.{Contract}
@@ -21,7 +22,6 @@ use Rattle.contracts.proofs.Verdicts.{Laid, Row, assign_fine}
 use Rattle.sheet.specs.Reading.{read_of}
 use Rattle.sheet.specs.Asking.{contract_at, rows_in, section_of}
 use Rattle.sheet.specs.declared.Counts.{Counts}
-use Rattle.sheet.specs.declared.Reading.{Reading}
 use Rattle.sheet.proofs.Accepted.{accepted_few, accepted_contract}
 use Rattle.sheet.proofs.Sections.{section_length, contract_row}
 use Rattle.hour.specs.Sheet.{Sheet, agents, contracts}
@@ -40,7 +40,7 @@ unfolding demands
 demands_long h = length_list_to (commercial h) (agents h)
 
 -- ---- the section is the contract rows of the sheet
-module _ (s : List ℕ) (c : Counts) (e : read_of s ≡ Reading.Accepted c) (sec : List ℕ)
+module _ (s : List ℕ) (c : Counts) (e : read_of s ≡ Ok c) (sec : List ℕ)
     (is : sec ≡ section_of s c 4) where
   abbrev h : Sheet
   h = columns_of s c
@@ -100,7 +100,7 @@ module _ (s : List ℕ) (c : Counts) (e : read_of s ≡ Reading.Accepted c) (sec
     amounts_are ds v d w =
         let x : Assigned sec (demands h) before v after = rw d at w in
         let f : assign_verdict sec (demands h) before
-        ≡ Verdict.Fine = assign_fine sec (demands h) before laid good (omega (arith, count)) in
+        ≡ (Ok tt) = assign_fine sec (demands h) before laid good (omega (arith, count)) in
         filled_by 0 _ _ _ (hour_amount (deals_in sec) (demands h)) (hour_amount h.deals (demands h))
         (λ j m. ap (λ (k : Rows). hour_amount k (demands h) j) deals_are)
         (filled_count 0 _ _ _ _ _ (ap (λ (u : Verdict). cells u (count_in sec)) f ∙ count) x.result)
@@ -188,7 +188,7 @@ module _ (s : List ℕ) (c : Counts) (e : read_of s ≡ Reading.Accepted c) (sec
           rest a m (no l) = get_or-eq_default sums 0 (omega (arith, w.long))
 
 -- ---- no contracts: no cell is written
-pub none_agreed : (s : List ℕ) (c : Counts) → read_of s ≡ Reading.Accepted c → (before : List ℕ)
+pub none_agreed : (s : List ℕ) (c : Counts) → read_of s ≡ Ok c → (before : List ℕ)
     → c.contracts ≡ 0
     → Agrees (columns_of s c) zeros before before
 none_agreed s c e before z =
@@ -223,10 +223,10 @@ module _ (section amounts : List ℕ) where
 
   module _ (p : Holding section amounts) (j : ℕ) (l : j < count_in section) (k : Contract) (is : k ≡ deal_in section j)
     where
-      pub buyer_there_lem : k.buyer < most_agents
+      buyer_there_lem : k.buyer < most_agents
       buyer_there_lem = omega (arith, ap (λ (x : Contract). x.buyer) is, p.buyer j l)
 
-      pub seller_there_lem : k.seller < most_agents
+      seller_there_lem : k.seller < most_agents
       seller_there_lem = omega (arith, ap (λ (x : Contract). x.seller) is, p.seller j l)
 
       module _ (held : List ℕ) (long : length held ≡ most_agents)

@@ -12,7 +12,7 @@ use Rattle.sums.proofs.Sums.{sum_eq, peak_eq}
 use Rattle.sums.proofs.Lists.{zeros_at, length_list_to, get_d_list_to, list_to_eq}
 use Rattle.sums.proofs.Keyed.{keyed_eq}
 use Rattle.sums.proofs.Fill.{filled_by, filled_then, filled_front, front_at, front_long}
-use Rattle.refusals.specs.declared.Verdict.{Verdict}
+use Rattle.refusals.specs.Refusals.{Verdict}
 use Rattle.limits.specs.Limits.{most_agents, most_plants, most_available}
 use Rattle.merit.specs.Merit.{schedule, ideal_dispatch, hour_price}
 use Rattle.merit.proofs.Schedule.{schedule_eq}

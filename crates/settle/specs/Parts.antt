@@ -1,10 +1,11 @@
 -- What the parts of a settlement hand on to each other. Assumes nothing.
+use Rattle.std.specs.Prelude.{Result, Ok, Err}
 use Rattle.std.specs.Prelude.{ℕ, ◌+◌, ◌-◌, ◌*◌, ◌≤◌, ◌<◌, List, ◌≡◌, length}
 use Rattle.sums.specs.Sums.{sum, keyed}
 use Rattle.sums.specs.Lists.{at, list_to, Filled}
 use Rattle.refusals.specs.Refusals.{cells}
 use Rattle.refusals.specs.declared.Refusal.{Refusal}
-use Rattle.refusals.specs.declared.Verdict.{Verdict}
+use Rattle.refusals.specs.Refusals.{Verdict}
 use Rattle.limits.specs.Limits.{most_agents, most_plants, most_contracts, most_available, most_quantity}
 use Rattle.balance.specs.Balances.{zeros, unscheduled}
 use Rattle.balance.specs.declared.Weight.{Weight}
@@ -32,6 +33,11 @@ Tallied keys values before after =
 abbrev pub turned_away : Refusal → Summary
 turned_away r = record { number = r.number; place = r.place; price = 0; demand = 0; losses = 0 }
 
+-- the verdict on a sheet, from what admitting it told
+abbrev pub verdict_on : Result Weight Refusal → Verdict
+verdict_on (Ok w) = Ok tt
+verdict_on (Err r) = Err r
+
 -- ---- the plants of the sheet h
 
 -- what each has to spare above its must-run
@@ -41,7 +47,7 @@ spare_of h = list_to (λ i. at h.available i - at h.must_run i) (plants h)
 -- d is what central dispatch has to meet, the plants cover it and need not run beyond it, the lent list has a cell for each, and what
 -- own energy no schedule gives stands in os
 pub record Covered (h : Sheet) (d room : ℕ) (os : List ℕ) : Type 0 where
-  pub balance : balance_verdict h ≡ Verdict.Fine
+  pub balance : balance_verdict h ≡ Ok tt
   pub target : d ≡ dispatch_demand h
   pub enough : dispatch_demand h ≤ sum (plants h) (at h.available)
   pub runs : sum (plants h) (at h.must_run) ≤ dispatch_demand h
@@ -95,8 +101,8 @@ pub record Tradable (h : Sheet) (w : Weight) (ds os : List ℕ) (for_plants for_
 -- where it is refused
 pub record Trades (v : Verdict) (h : Sheet) (os cs schedule₀ schedule₁ amounts₀ amounts₁ : List ℕ) (r : Summary) : Type 0 where
   pub answered : r ≡ summary_of v h
-  pub own : v ≡ Verdict.Fine → (a : ℕ) → a < agents h → at os a ≡ own h a
-  pub held : v ≡ Verdict.Fine → (a : ℕ) → a < agents h → at cs a ≡ contracted h a
+  pub own : v ≡ Ok tt → (a : ℕ) → a < agents h → at os a ≡ own h a
+  pub held : v ≡ Ok tt → (a : ℕ) → a < agents h → at cs a ≡ contracted h a
   pub schedule : Filled 0 schedule₀ schedule₁ (cells v (plants h)) (scheduled h)
   pub amounts : Filled 0 amounts₀ amounts₁ (cells v (contracts h)) (amount h)
 
@@ -112,6 +118,6 @@ pub record LineColumns (h : Sheet) (n : ℕ) (ks ss os is cs : List ℕ) : Type 
 pub record SettledColumns (v : Verdict) (h : Sheet) (n : ℕ) (ks ss os is cs schedule₀ schedule₁ amounts₀ amounts₁ : List ℕ)
     (r : Summary) : Type 0 where
   pub answered : r ≡ summary_of v h
-  pub columns : v ≡ Verdict.Fine → LineColumns h n ks ss os is cs
+  pub columns : v ≡ Ok tt → LineColumns h n ks ss os is cs
   pub schedule : Filled 0 schedule₀ schedule₁ (cells v (plants h)) (scheduled h)
   pub amounts : Filled 0 amounts₀ amounts₁ (cells v (contracts h)) (amount h)

@@ -2,7 +2,7 @@
 use Rattle.std.specs.Prelude.{ℕ, ◌*◌, List, ◌≡◌, pos}
 use Rattle.sums.specs.Lists.{Filled}
 use Rattle.refusals.specs.Refusals.{or_else, cells}
-use Rattle.refusals.specs.declared.Verdict.{Verdict}
+use Rattle.refusals.specs.Refusals.{Verdict}
 use Rattle.sheet.specs.Reading.{read_verdict}
 use Rattle.columns.specs.Columns.{hour_of}
 use Rattle.hour.specs.Sheet.{Sheet, agents, plants, contracts}

@@ -5,19 +5,17 @@
 use balance::Weight;
 use hour::Summary;
 use limits::Agent;
-use refusals::{Refusal, Verdict};
-use sheet::{Counts, Reading};
+use refusals::Refusal;
+use sheet::Counts;
 
 mod agreed;
 mod plants;
 mod tally;
 
-ghost use Rattle.std.specs.Prelude.{◌≤◌, true, ◌≡◌, length};
-ghost use Rattle.refusals.specs.declared.Verdict.{Verdict};
+ghost use Rattle.std.specs.Prelude.{◌≤◌, true, ◌≡◌, length, IfOk};
 ghost use Rattle.sheet.specs.Reading.{read_of};
-ghost use Rattle.sheet.specs.declared.Reading.{Reading};
 ghost use Rattle.columns.specs.Columns.{columns_of};
-ghost use Rattle.settle.specs.Parts.{Tradable, Trades, SettledColumns, turned_away};
+ghost use Rattle.settle.specs.Parts.{Tradable, Trades, SettledColumns, turned_away, verdict_on};
 ghost use Rattle.balance.specs.Balances.{zeros};
 ghost use Rattle.ground.specs.Ground.{admission_with};
 ghost use Rattle.hour.specs.Answer.{lent};
@@ -43,22 +41,22 @@ pub fn turned_away(r: Refusal) -> Summary
 pub fn trade(
     bytes: &[u8],
     c: Counts,
-    w: Weight,
+    w: Result<Weight, Refusal>,
     held: &mut [u32; Agent::MOST],
     own: &mut [u32; Agent::MOST],
     schedule: &mut [u32],
     amounts: &mut [u32],
 ) -> Summary
-    requires bytes_value { read_of bytes.now ≡ Reading.Accepted c }
-    requires tradable { w.verdict ≡ Verdict.Fine → Tradable (columns_of bytes.now c) w held.old own.old
-        (length schedule.old) (length amounts.old) }
-    ensures { Trades w.verdict (columns_of bytes.now c) own.new held.new
+    requires bytes_value { read_of bytes.now ≡ Ok c }
+    requires tradable { IfOk w (λ x. Tradable (columns_of bytes.now c) x held.old own.old
+        (length schedule.old) (length amounts.old)) }
+    ensures { Trades (verdict_on w) (columns_of bytes.now c) own.new held.new
         schedule.old schedule.new amounts.old amounts.new result }
 {
-    let verdict = w.verdict;
-    if let Verdict::Refused(r) = verdict {
-        return turned_away(r);
-    }
+    let w = match w {
+        Ok(w) => w,
+        Err(why) => return turned_away(why),
+    };
     agreed::agree(bytes, c, held, amounts);
     let price = plants::generate(bytes, c, w.target, schedule, own);
     Summary {
@@ -85,7 +83,7 @@ pub fn settle_columns(
     schedule: &mut [u32],
     amounts: &mut [u32],
 ) -> Summary
-    requires bytes_value { read_of bytes.now ≡ Reading.Accepted c }
+    requires bytes_value { read_of bytes.now ≡ Ok c }
     requires own_value { (own.old ≡ zeros) × (room ≡ true → (c.plants ≤ length schedule.old) × (c.contracts ≤ length amounts.old)) }
     ensures { SettledColumns (admission_with (columns_of bytes.now c) room) (columns_of bytes.now c) c.agents
         kinds.new shares.new own.new imports.new held.new
@@ -105,7 +103,7 @@ pub fn settle_read(
     schedule: &mut [u32],
     amounts: &mut [u32],
 ) -> Summary
-    requires { read_of bytes.now ≡ Reading.Accepted c }
+    requires { read_of bytes.now ≡ Ok c }
     ensures { Settled bytes.now
         (lent figures.old money.old schedule.old amounts.old)
         (lent figures.new money.new schedule.new amounts.new)
@@ -130,6 +128,7 @@ pub fn settle_read(
         schedule,
         amounts,
     );
+    // the C interface tells the summary by its number, 0 for a settled hour: `Summary` is flat
     if s.number != 0 {
         return s;
     }
@@ -153,7 +152,7 @@ pub fn settle(
         result }
 {
     match sheet::read(bytes) {
-        Reading::Accepted(c) => settle_read(bytes, c, figures, money, schedule, amounts),
-        Reading::Refused(why) => turned_away(why),
+        Ok(c) => settle_read(bytes, c, figures, money, schedule, amounts),
+        Err(why) => turned_away(why),
     }
 }

@@ -4,7 +4,6 @@ ghost use Rattle.sums.specs.Sums.{sum};
 ghost use Rattle.sums.specs.Lists.{at, Filled};
 ghost use Rattle.limits.specs.Limits.{most_plants};
 ghost use Rattle.sheet.specs.Reading.{read_of};
-ghost use Rattle.sheet.specs.declared.Reading.{Reading};
 ghost use Rattle.columns.specs.Columns.{columns_of};
 ghost use Rattle.settle.specs.Parts.{Covered, Generates};
 
@@ -20,11 +19,9 @@ fn set_apart(musts: &[u32; Plant::MOST], n: usize, available: &mut [u32]) -> u32
         (λ i. at available.old i - at musts.now i) }
 {
     let mut total = 0;
-    let mut i = 0;
-    while i < n {
-        available[i] = sums::less(available[i], musts[i]);
+    for i in 0..n {
+        available[i] = available[i].saturating_sub(musts[i]);
         total += musts[i];
-        i += 1;
     }
     total
 }
@@ -36,10 +33,8 @@ fn add_musts(musts: &[u32; Plant::MOST], n: usize, schedule: &mut [u32])
     ensures { Filled 0 schedule.old schedule.new n
         (λ i. at musts.now i + at schedule.old i) }
 {
-    let mut i = 0;
-    while i < n {
-        schedule[i] = musts[i] + schedule[i];
-        i += 1;
+    for i in 0..n {
+        schedule[i] += musts[i];
     }
 }
 
@@ -52,7 +47,7 @@ pub(crate) fn generate(
     schedule: &mut [u32],
     own: &mut [u32],
 ) -> u32
-    requires bytes_value { read_of bytes.now ≡ Reading.Accepted c }
+    requires bytes_value { read_of bytes.now ≡ Ok c }
     requires covered { Covered (columns_of bytes.now c) target (length schedule.old) own.old }
     ensures { Generates (columns_of bytes.now c) result own.new
         schedule.old schedule.new }
@@ -73,8 +68,8 @@ pub(crate) fn generate(
         &mut spare,
     );
     let must = set_apart(&musts, n, &mut spare);
-    let rest = sums::less(target, must);
-    dispatch::dispatch(&offers[..n], &spare[..n], rest, schedule);
+    let rest = target.saturating_sub(must);
+    let _ = dispatch::dispatch(&offers[..n], &spare[..n], rest, schedule);
     add_musts(&musts, n, schedule);
     tally::tally(&holders[..n], &schedule[..n], own);
     dispatch::price(&offers[..n], &flags[..n], &schedule[..n])

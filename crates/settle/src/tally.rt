@@ -6,11 +6,7 @@ pub(crate) fn tally(keys: &[u32], values: &[u32], out: &mut [u32])
     requires { Countable keys.now values.now out.old }
     ensures { Tallied keys.now values.now out.old out.new }
 {
-    let n = keys.len();
-    let mut j = 0;
-    while j < n {
-        let a = keys[j] as usize;
-        out[a] = out[a] + values[j];
-        j += 1;
+    for (&key, &value) in keys.iter().zip(values) {
+        out[key as usize] += value;
     }
 }

@@ -1,13 +1,14 @@
 -- The kWh left over cross the weights by what these lack: how the crossing is closed in on, and what is given by it.
 -- Assumes nothing.
 use mathlib.Core.Path.{◌≡◌, refl, sym, ap, ◌∙◌}
-use mathlib.Core.List.{List, [], ◌∷◌}
+use mathlib.Core.List.{List}
 use mathlib.Core.Bool.{Bool, true, false}
-use Prim.Native.Nat.{ℕ, zero, suc, ◌+◌, ◌-◌, ◌*◌, ◌/◌, ◌%◌, ◌≤◌, ◌<◌, min}
+use Prim.Native.Nat.{ℕ, suc, ◌+◌, ◌-◌, ◌*◌, ◌/◌, ◌%◌, ◌≤◌, ◌<◌, min}
 use native.Mathlib.Nat.{le_refl, mul-le-mul_left}
 use native.Mathlib.Decide.{dec_lt, ℕ_discrete}
 use native.Mathlib.Omega.{arith}
 use lib.Dec.{ltb, eqb}
+use mir.Val.{bool_byte}
 use lib.ListN.{length, set, length-set}
 use lib.Seq.{get_or-set_same, get_or-set_other}
 use borrow.Author.Tests.{lt-ltb, le-ltb, eq-eqb, ne_eqb}
@@ -100,6 +101,12 @@ module _ (a : ℕ) (ws : List ℕ) (pos : 0 < total ws) where
             (omega (arith, b.reached)),
       )
 
+-- a test as a number
+pub byte_is : (b : Bool) → bool_byte b ≡ pick b 1
+unfolding pick
+byte_is true = refl
+byte_is false = refl
+
 -- a unit without a branch
 pub unit_is : (k x left : ℕ) → pick (ltb k x) 1 + min (pick (eqb k x) 1) left ≡ taken k x 1 left
 unit_is k x left = go (dec_lt k x) (dec_lt x k)
@@ -120,28 +127,6 @@ unit_is k x left = go (dec_lt k x) (dec_lt x k)
     )
 
 -- ---- the next group, by a fresh pass
-
--- the lesser of two values, without a branch
-pub lesser_is : (low k x c y z e : ℕ)
-    → x ≤ most_total
-    → (low ≤ k → y ≡ k)
-    → (k < low → most_total < y)
-    → z ≡ min y x
-    → (y < x → e ≡ 1)
-    → (y ≡ x → e ≡ c + 1)
-    → (x < y → e ≡ c)
-    → Lesser low k x c z e
-lesser_is low k x c y z e h inside outside m f g p =
-    record {
-      out = λ l. (omega (arith, outside l), p (omega (arith, outside l)));
-      past = λ l. past l (dec_lt k low);
-      new = λ l q. (omega (arith, inside l), f (omega (arith, inside l)));
-      same = λ l q. (omega (arith, inside l), g (omega (arith, inside l)));
-    }
-  where
-    past : x < k → Dec (k < low) → (z ≡ x) × (e ≡ c)
-    past l (yes q) = (omega (arith, outside q), p (omega (arith, outside q)))
-    past l (no q) = (omega (arith, inside (omega arith)), p (omega (arith, inside (omega arith))))
 
 module _ (key : ℕ → ℕ) (low high : ℕ) where
   pub next_none : low ≤ high → NextLack key 0 low high high 0
@@ -299,17 +284,6 @@ module _ (key : ℕ → ℕ) (low w : ℕ) where
   classed_few n l h s c m =
       omega (arith, s.held c m, keyed_most (λ j. class_of low w (key j)) one n c 1 (λ j _. le_refl 1))
 
--- a list of n zeros
-unfoldable pub zeros : ℕ → List ℕ
-zeros zero = []
-zeros (suc n) = 0 ∷ zeros n
-
-pub at_zeros : (n c : ℕ) → at (zeros n) c ≡ 0
-unfolding zeros
-at_zeros zero c = refl
-at_zeros (suc n) zero = refl
-at_zeros (suc n) (suc c) = at_zeros n c
-
 -- the span of a class
 module _ (key : ℕ → ℕ) (n low high left w : ℕ) (counts : List ℕ) (class rest : ℕ) (pos : 0 < w) (fits : w ≤ high - low)
     (s : Classed key n low w counts) (r : Levelled counts left class rest) where
@@ -380,42 +354,6 @@ bracket_start a ws t left d e sh =
       reached = omega (arith, below_zero (lack_of a ws) one (length ws));
       enough = λ i l m. absurd (omega (arith, sh.is));
     }
-
--- nothing is left over: the crossing is anywhere
-pub bracket_none : (a : ℕ) (ws : List ℕ) (high d : ℕ) → d ≡ 0 → Bracket (lack_of a ws) one (length ws) d 0 high 0
-bracket_none a ws high d e =
-    record { reached = omega (arith, below_zero (lack_of a ws) one (length ws)); enough = λ i l m. omega arith }
-
-weights_some : (ws : List ℕ) → 0 < total ws → 0 < length ws
-unfolding total sum
-weights_some [] h = absurd (omega arith)
-weights_some (w ∷ ws) h = omega arith
-
--- every weight lacks something, so that a span that ends at 0 is one of nothing
-pub bracket_end : (a : ℕ) (ws : List ℕ) (low high left d : ℕ)
-    → 0 < total ws
-    → Bracket (lack_of a ws) one (length ws) d low high left
-    → high ≡ 0
-    → d ≡ 0
-bracket_end a ws low high left d pos b e = go (dec_lt 0 d)
-  where
-    enough : (i : ℕ) → i < length ws → d ≤ held_below (lack_of a ws) one (length ws) (lack_of a ws i)
-    enough i l = b.enough i l (omega (arith, remainder_lt a ws pos i))
-
-    none : 0 < d → (x : ℕ) → held_below (lack_of a ws) one (length ws) x ≡ 0
-    none h zero = below_zero (lack_of a ws) one (length ws)
-    none h (suc x) =
-        omega (
-          arith,
-          none h x,
-          below_suc (lack_of a ws) one (length ws) x,
-          keyed_absent (lack_of a ws) one (length ws) x
-              (λ j l z. omega (arith, enough j l, none h x, ap (held_below (lack_of a ws) one (length ws)) z)),
-        )
-
-    go : Dec (0 < d) → d ≡ 0
-    go (yes h) = omega (arith, enough 0 (weights_some ws pos), none h (lack_of a ws 0))
-    go (no h) = omega arith
 
 -- nothing is left over: the floors are the shares
 pub no_left : (a : ℕ) (ws before after : List ℕ)

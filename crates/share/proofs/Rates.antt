@@ -1,17 +1,10 @@
 -- Division by a rate: a rate that is not above amount ÷ total gives no more than the floor, and what then lacks to the product tells
 -- whether it is the floor. Assumes nothing.
 use mathlib.Core.Path.{◌≡◌, sym, ap, ◌∙◌}
-use Prim.Native.Nat.{ℕ, ◌-◌, ◌*◌, ◌/◌, ◌%◌, ◌≤◌, ◌<◌, min}
-use native.Mathlib.Nat.{le_trans, mul-le-mul_right, le_of_mul-le-mul_right, div-mul-le_self, div-add-mod', div-eq_of_lt-le}
+use Prim.Native.Nat.{ℕ, ◌-◌, ◌*◌, ◌/◌, ◌%◌, ◌≤◌, ◌<◌}
+use native.Mathlib.Nat.{mul-le-mul_right, le_of_mul-le-mul_right, div-mul-le_self, div-add-mod', div-eq_of_lt-le}
 use native.Mathlib.Omega.{arith}
 use Rattle.share.specs.Lacks.{whole_rate, Rate}
-
--- the quotient, a whole one at the most, is a rate
-pub rate_is : (a t : ℕ) → Rate a t (min (a * whole_rate / t) whole_rate)
-rate_is a t = record {
-  most = omega arith;
-  below = le_trans (mul-le-mul_right t (omega arith)) (div-mul-le_self (a * whole_rate) t);
-}
 
 -- of a product p of amount and weight
 module _ (a w t p : ℕ) (e : p ≡ a * w) where
@@ -33,8 +26,3 @@ module _ (a w t p : ℕ) (e : p ≡ a * w) where
       let q : p / t ≡ g = div-eq_of_lt-le t h (omega arith) in
       let r : p - g * t ≡ p % t = omega (arith, ap (λ (z : ℕ). z * t) q, div-add-mod' p t) in
       (sym q ∙ ap (λ (z : ℕ). z / t) e, r ∙ ap (λ (z : ℕ). z % t) e)
-
-  -- a weight's floor is at most the amount
-  pub floor_most : 0 < t → w ≤ t → p / t ≤ a
-  floor_most pos h =
-      le_of_mul-le-mul_right (le_trans (div-mul-le_self p t) (omega (arith, e, mul-le-mul_right a h))) pos

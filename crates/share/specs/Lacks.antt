@@ -89,12 +89,10 @@ pub record Levelled (counts : List ℕ) (left class rest : ℕ) : Type 0 where
 pub record Chosen (counts : List ℕ) (w low high left low' high' left' : ℕ) : Type 0 where
   pub of : (key : ℕ → ℕ) (n : ℕ) → Classed key n low w counts → Narrowed key n low high left low' high' left'
 
--- the floors in the list, and a first span of the crossing of the kWh left over; it ends at 0 only where none is left over
-pub record FirstSpan (amount : ℕ) (weights before : List ℕ) (low high left : ℕ) (after : List ℕ) : Type 0 where
-  pub result : Filled 0 before after (length weights) (floor_of amount weights)
+-- a first span of the crossing of the kWh left over
+pub record FirstSpan (amount : ℕ) (weights : List ℕ) (low high left : ℕ) : Type 0 where
   pub small : high ≤ most_total
   pub span : Bracket (lack_of amount weights) one (length weights) (left_over amount weights) low high left
-  pub none : high ≡ 0 → left_over amount weights ≡ 0
 
 -- a span is narrowed till it is closed
 pub record Closed (key : ℕ → ℕ) (n low high left low' high' left' : ℕ) : Type 0 where

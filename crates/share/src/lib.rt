@@ -2,11 +2,10 @@
 // go one each to the largest remainders, the lower number first among equal ones.
 #![tactic(auto)]
 
-ghost use Rattle.std.specs.Prelude.{◌≡◌, ℕ, ◌+◌, ◌-◌, ◌*◌, ◌/◌, ◌%◌, ◌^◌, ◌<◌, ◌≤◌, min, length, ltb, eqb};
-ghost use Rattle.sums.specs.Sums.{pick};
+ghost use Rattle.std.specs.Prelude.{◌≡◌, ℕ, ◌+◌, ◌-◌, ◌*◌, ◌/◌, ◌%◌, ◌^◌, ◌<◌, ◌≤◌, length, MatchOption};
 ghost use Rattle.sums.specs.Lists.{at, total, Filled};
 ghost use Rattle.crossing.specs.Crossing.{Bracket, taken};
-ghost use Rattle.share.specs.Share.{most_weights, left_over, share_of, Shared};
+ghost use Rattle.share.specs.Share.{most_weights, floor_of, left_over, share_of, Shared};
 ghost use Rattle.share.specs.Lacks.{most_total, Sharing, whole_rate, Rate, Floored, FloorsHeld, lack_of, one, Lesser, NextLack};
 ghost use Rattle.share.specs.Lacks.{Narrowed, Noted, Cleared, Classed, Levelled, Chosen, FirstSpan, Closed};
 
@@ -19,7 +18,7 @@ pub const MOST_WEIGHTS: usize = 256;
 fn product(x: u32, y: u32) -> u64
     ensures { result ≡ x * y }
 {
-    (x as u64) * (y as u64)
+    u64::from(x) * u64::from(y)
 }
 
 // The sum of the weights.
@@ -27,33 +26,23 @@ fn total_of(weights: &[u32]) -> u64
     requires { length weights.now ≤ most_weights }
     ensures { (result ≡ total weights.now) × (result ≤ most_total) }
 {
-    let mut s: u64 = 0;
-    let mut i = 0;
-    while i < weights.len() {
-        s += weights[i] as u64;
-        i += 1;
-    }
-    s
+    weights.iter().map(|&w| u64::from(w)).sum()
 }
 
-// A total of 0 gives all zeros.
-fn clear(n: usize, out: &mut [u32])
-    requires { n ≤ length out.old }
-    ensures { Filled 0 out.old out.new n (λ _. 0) }
-{
-    let mut i = 0;
-    while i < n {
-        out[i] = 0;
-        i += 1;
-    }
+// What is shared, over which weights, and the total of these.
+#[derive(Clone, Copy)]
+struct Split<'a> {
+    amount: u32,
+    weights: &'a [u32],
+    total: u64,
 }
 
 // What a weight lacks to its next kWh: the total less the remainder, found from the floor without a second division.
-fn lack(amount: u32, weight: u32, t: u64, floor: u32) -> u64
-    requires { (0 < t) × (t ≤ most_total) × (floor ≡ amount * weight / t) }
-    ensures { (result ≡ t - amount * weight % t) × (result ≤ t) }
+fn lack(p: &Split, weight: u32, floor: u32) -> u64
+    requires { (0 < p.now.total) × (p.now.total ≤ most_total) × (floor ≡ p.now.amount * weight / p.now.total) }
+    ensures { (result ≡ p.now.total - p.now.amount * weight % p.now.total) × (result ≤ p.now.total) }
 {
-    t - (product(amount, weight) - (floor as u64) * t)
+    p.total - (product(p.amount, weight) - u64::from(floor) * p.total)
 }
 
 // ---- the proportions, with one division for all of them
@@ -62,11 +51,11 @@ fn lack(amount: u32, weight: u32, t: u64, floor: u32) -> u64
 const WHOLE: u64 = 4294967296;
 
 // The amount's part of the total, in 2^32nds: rounded down, and a whole one at the most, so that it can be multiplied by any weight.
-fn rate_of(amount: u32, t: u64) -> u64
-    requires { 0 < t }
-    ensures { Rate amount t result }
+fn rate_of(p: &Split) -> u64
+    requires { 0 < p.now.total }
+    ensures { Rate p.now.amount p.now.total result }
 {
-    lower(sums::wide(amount) * WHOLE / t, WHOLE)
+    (u64::from(p.amount) * WHOLE / p.total).min(WHOLE)
 }
 
 // What a rate gives a weight, rounded down.
@@ -74,7 +63,7 @@ fn rated(rate: u64, weight: u32) -> u64
     requires { rate ≤ whole_rate }
     ensures { result ≡ rate * weight / whole_rate }
 {
-    rate * sums::wide(weight) / WHOLE
+    rate * u64::from(weight) / WHOLE
 }
 
 // A weight's proportion of the amount, rounded down, and the remainder.
@@ -85,22 +74,23 @@ struct Divided {
 }
 
 // What the rate gives is the floor or less: only where it leaves no less than the total is a division made for this weight.
-fn divide(amount: u32, weight: u32, t: u64, rate: u64) -> Divided
-    requires { (0 < t) × (weight ≤ t) × Rate amount t rate }
-    ensures { (result.floor ≡ amount * weight / t) × (result.remainder ≡ amount * weight % t) }
+fn divide(p: &Split, weight: u32, rate: u64) -> Divided
+    requires { (0 < p.now.total) × (weight ≤ p.now.total) × Rate p.now.amount p.now.total rate }
+    ensures { (result.floor ≡ p.now.amount * weight / p.now.total)
+        × (result.remainder ≡ p.now.amount * weight % p.now.total) }
 {
-    let p = product(amount, weight);
+    let whole = product(p.amount, weight);
     let guess = rated(rate, weight);
-    let rest = p - guess * t;
-    if rest < t {
+    let rest = whole - guess * p.total;
+    if rest < p.total {
         return Divided {
             floor: guess as u32,
             remainder: rest,
         };
     }
     Divided {
-        floor: (p / t) as u32,
-        remainder: p % t,
+        floor: (whole / p.total) as u32,
+        remainder: whole % p.total,
     }
 }
 
@@ -130,7 +120,7 @@ fn lesser(m: Least, low: u64, k: u64) -> Least
 {
     let y = from(k, low);
     Least {
-        lack: lower(y, m.lack),
+        lack: y.min(m.lack),
         count: count_of(y, m.lack, m.count),
     }
 }
@@ -140,7 +130,7 @@ fn count_of(y: u64, x: u64, c: u32) -> u32
     requires { c < 4294967295 }
     ensures { (y < x → result ≡ 1) × (y ≡ x → result ≡ c + 1) × (x < y → result ≡ c) }
 {
-    let more = c + same(y, x);
+    let more = c + u32::from(y == x);
     if y < x { 1 } else { more }
 }
 
@@ -148,34 +138,31 @@ fn count_of(y: u64, x: u64, c: u32) -> u32
 fn from(k: u64, low: u64) -> u64
     ensures { (low ≤ k → result ≡ k) × (k < low → most_total < result) }
 {
-    if k < low { 18446744073709551615 } else { k }
+    if k < low { u64::MAX } else { k }
 }
 
 // The next lack from `low` on, by a fresh pass.
-fn least_from(amount: u32, weights: &[u32], t: u64, out: &[u32], low: u64, high: u64) -> Least
-    requires { FloorsHeld amount weights.now t out.now × (low ≤ high) × (high ≤ most_total) }
-    ensures { NextLack (lack_of amount weights.now) (length weights.now) low high result.lack result.count }
+fn least_from(p: &Split, out: &[u32], low: u64, high: u64) -> Least
+    requires { FloorsHeld p.now.amount p.now.weights.now p.now.total out.now × (low ≤ high) × (high ≤ most_total) }
+    ensures { NextLack (lack_of p.now.amount p.now.weights.now) (length p.now.weights.now) low high result.lack result.count }
 {
     let mut m = Least {
         lack: high,
         count: 0,
     };
-    let mut i = 0;
-    while i < weights.len() {
-        let k = lack(amount, weights[i], t, out[i]);
-        m = lesser(m, low, k);
-        i += 1;
+    for (&weight, &floor) in p.weights.iter().zip(out) {
+        m = lesser(m, low, lack(p, weight, floor));
     }
     m
 }
 
 // One group of equal lacks is passed.
-fn pass(amount: u32, weights: &[u32], t: u64, out: &[u32], b: Span) -> Span
-    requires { FloorsHeld amount weights.now t out.now × (b.low < b.high) × (b.high ≤ most_total) }
-    ensures { Narrowed (lack_of amount weights.now) (length weights.now) b.low b.high b.left
+fn pass(p: &Split, out: &[u32], b: Span) -> Span
+    requires { FloorsHeld p.now.amount p.now.weights.now p.now.total out.now × (b.low < b.high) × (b.high ≤ most_total) }
+    ensures { Narrowed (lack_of p.now.amount p.now.weights.now) (length p.now.weights.now) b.low b.high b.left
         result.low result.high result.left }
 {
-    let m = least_from(amount, weights, t, out, b.low, b.high);
+    let m = least_from(p, out, b.low, b.high);
     if b.left <= m.count {
         return Span {
             low: m.lack,
@@ -205,15 +192,8 @@ fn shift_for(x: u64, most: u32) -> u32
     requires { (0 < x) × (most < 64) }
     ensures { (result < 64) × (2 ^ result ≤ x) }
 {
-    let z = u64::leading_zeros(x);
-    if most < z {
-        return 0;
-    }
-    let s = most - z;
-    if x < power(s) {
-        return 0;
-    }
-    s
+    let s = most.saturating_sub(x.leading_zeros());
+    if x < power(s) { 0 } else { s }
 }
 
 // The class of k: a value that is chosen, and no branch.
@@ -236,35 +216,29 @@ fn note(counts: &mut [u32], low: u64, s: u32, k: u64)
 }
 
 // Puts in the shares rounded down, and hands back the kWh left over. While it divides it counts what the weights lack by classes.
-fn floors(amount: u32, weights: &[u32], t: u64, s: u32, out: &mut [u32], counts: &mut [u32]) -> u32
-    requires { Sharing weights.now t × (length weights.now ≤ length out.old) × (s < 64) × Cleared counts.old }
-    ensures { Floored amount weights.now out.old result out.new
-        × Classed (lack_of amount weights.now) (length weights.now) 0 (2 ^ s) counts.new }
+fn floors(p: &Split, s: u32, out: &mut [u32], counts: &mut [u32]) -> u32
+    requires { Sharing p.now.weights.now p.now.total × (length p.now.weights.now ≤ length out.old) × (s < 64) × Cleared counts.old }
+    ensures { Floored p.now.amount p.now.weights.now out.old result out.new
+        × Classed (lack_of p.now.amount p.now.weights.now) (length p.now.weights.now) 0 (2 ^ s) counts.new }
 {
-    let rate = rate_of(amount, t);
-    let mut left = amount;
-    let mut i = 0;
-    while i < weights.len() {
-        let p = divide(amount, weights[i], t, rate);
-        let floor = p.floor;
-        note(counts, 0, s, t - p.remainder);
-        out[i] = floor;
-        left -= floor;
-        i += 1;
+    let rate = rate_of(p);
+    let mut left = p.amount;
+    for (i, &weight) in p.weights.iter().enumerate() {
+        let d = divide(p, weight, rate);
+        note(counts, 0, s, p.total - d.remainder);
+        out[i] = d.floor;
+        left -= d.floor;
     }
     left
 }
 
 // How many lack so much as to be of each class.
-fn classes(amount: u32, weights: &[u32], t: u64, out: &[u32], low: u64, s: u32, counts: &mut [u32])
-    requires { FloorsHeld amount weights.now t out.now × (s < 64) × Cleared counts.old }
-    ensures { Classed (lack_of amount weights.now) (length weights.now) low (2 ^ s) counts.new }
+fn classes(p: &Split, out: &[u32], low: u64, s: u32, counts: &mut [u32])
+    requires { FloorsHeld p.now.amount p.now.weights.now p.now.total out.now × (s < 64) × Cleared counts.old }
+    ensures { Classed (lack_of p.now.amount p.now.weights.now) (length p.now.weights.now) low (2 ^ s) counts.new }
 {
-    let mut i = 0;
-    while i < weights.len() {
-        let k = lack(amount, weights[i], t, out[i]);
-        note(counts, low, s, k);
-        i += 1;
+    for (&weight, &floor) in p.weights.iter().zip(out) {
+        note(counts, low, s, lack(p, weight, floor));
     }
 }
 
@@ -281,20 +255,14 @@ fn class_at(counts: &[u32], left: u32) -> Reach
     ensures { Levelled counts.now left result.class result.left }
 {
     let mut rest = left;
-    let mut c: usize = 0;
-    while c < 63 {
-        let held = counts[c];
+    for (class, &held) in counts[..63].iter().enumerate() {
         if rest <= held {
-            return Reach {
-                class: c,
-                left: rest,
-            };
+            return Reach { class, left: rest };
         }
         rest -= held;
-        c += 1;
     }
     Reach {
-        class: c,
+        class: 63,
         left: rest,
     }
 }
@@ -321,114 +289,90 @@ fn choose(counts: &[u32], s: u32, b: Span) -> Span
     if held <= l.left {
         return Span {
             low: top + 1,
-            high: lower(top, b.high),
+            high: top.min(b.high),
             left: 0,
             held: 0,
         };
     }
     Span {
         low,
-        high: lower(top, b.high),
+        high: top.min(b.high),
         left: l.left,
         held,
     }
 }
 
 // The span of one class out of 63, by a fresh pass.
-fn narrow(amount: u32, weights: &[u32], t: u64, out: &[u32], b: Span) -> Span
-    requires { FloorsHeld amount weights.now t out.now × (b.low < b.high) × (b.high ≤ most_total) }
-    ensures { Narrowed (lack_of amount weights.now) (length weights.now) b.low b.high b.left
+fn narrow(p: &Split, out: &[u32], b: Span) -> Span
+    requires { FloorsHeld p.now.amount p.now.weights.now p.now.total out.now × (b.low < b.high) × (b.high ≤ most_total) }
+    ensures { Narrowed (lack_of p.now.amount p.now.weights.now) (length p.now.weights.now) b.low b.high b.left
         result.low result.high result.left }
 {
     let s = shift_for(b.high - b.low, 58);
     let mut counts = [0u32; 64];
-    classes(amount, weights, t, out, b.low, s, &mut counts);
+    classes(p, out, b.low, s, &mut counts);
     choose(&counts, s, b)
 }
 
-fn lower(x: u64, y: u64) -> u64
-    ensures { result ≡ min x y }
-{
-    if x < y { x } else { y }
-}
-
 // Where the kWh left over cross the weights. Which step is taken is a matter of speed alone.
-fn crossing(amount: u32, weights: &[u32], t: u64, first: Span, out: &[u32]) -> Span
-    requires { FloorsHeld amount weights.now t out.now × (first.high ≤ most_total) }
-    ensures { Closed (lack_of amount weights.now) (length weights.now) first.low first.high
+fn crossing(p: &Split, first: Span, out: &[u32]) -> Span
+    requires { FloorsHeld p.now.amount p.now.weights.now p.now.total out.now × (first.high ≤ most_total) }
+    ensures { Closed (lack_of p.now.amount p.now.weights.now) (length p.now.weights.now) first.low first.high
         first.left result.low result.high result.left }
 {
     let mut b = first;
     while b.low < b.high {
-        b = step(amount, weights, t, out, b);
+        b = step(p, out, b);
     }
     b
 }
 
-fn step(amount: u32, weights: &[u32], t: u64, out: &[u32], b: Span) -> Span
-    requires { FloorsHeld amount weights.now t out.now × (b.low < b.high) × (b.high ≤ most_total) }
-    ensures { Narrowed (lack_of amount weights.now) (length weights.now) b.low b.high b.left
+fn step(p: &Split, out: &[u32], b: Span) -> Span
+    requires { FloorsHeld p.now.amount p.now.weights.now p.now.total out.now × (b.low < b.high) × (b.high ≤ most_total) }
+    ensures { Narrowed (lack_of p.now.amount p.now.weights.now) (length p.now.weights.now) b.low b.high b.left
         result.low result.high result.left }
 {
-    if b.left < 3 {
-        return pass(amount, weights, t, out, b);
+    if b.left < 3 || 8 < b.held || p.weights.len() <= 8 {
+        pass(p, out, b)
+    } else {
+        narrow(p, out, b)
     }
-    if 8 < b.held {
-        return pass(amount, weights, t, out, b);
-    }
-    if weights.len() <= 8 {
-        return pass(amount, weights, t, out, b);
-    }
-    narrow(amount, weights, t, out, b)
 }
 
 // One more for a weight that lacks less than x; at x for as many as are left.
 fn unit(k: u64, x: u64, left: u32) -> u32
     ensures { result ≡ taken k x 1 left }
 {
-    under(k, x) + sums::least(same(k, x), left)
-}
-
-fn under(k: u64, x: u64) -> u32
-    ensures { (result ≡ pick (ltb k x) 1) × (result ≤ 1) }
-{
-    if k < x { 1 } else { 0 }
-}
-
-fn same(k: u64, x: u64) -> u32
-    ensures { (result ≡ pick (eqb k x) 1) × (result ≤ 1) }
-{
-    if k == x { 1 } else { 0 }
+    u32::from(k < x) + u32::from(k == x).min(left)
 }
 
 // One kWh each to what lacks less than x, and to the first of those that lack x.
-fn give(amount: u32, weights: &[u32], t: u64, x: u64, left: u32, out: &mut [u32])
-    requires { FloorsHeld amount weights.now t out.old
-        × Bracket (lack_of amount weights.now) one (length weights.now) (left_over amount weights.now) x x left }
-    ensures { Filled 0 out.old out.new (length weights.now)
-        (share_of amount weights.now) }
+fn give(p: &Split, x: u64, left: u32, out: &mut [u32])
+    requires { FloorsHeld p.now.amount p.now.weights.now p.now.total out.old
+        × Bracket (lack_of p.now.amount p.now.weights.now) one (length p.now.weights.now)
+        (left_over p.now.amount p.now.weights.now) x x left }
+    ensures { Filled 0 out.old out.new (length p.now.weights.now)
+        (share_of p.now.amount p.now.weights.now) }
 {
     let mut rest = left;
-    let mut i = 0;
-    while i < weights.len() {
+    for (i, &weight) in p.weights.iter().enumerate() {
         let floor = out[i];
-        let k = lack(amount, weights[i], t, floor);
+        let k = lack(p, weight, floor);
         out[i] = floor + unit(k, x, rest);
-        rest = sums::less(rest, same(k, x));
-        i += 1;
+        rest = rest.saturating_sub(u32::from(k == x));
     }
 }
 
 // The kWh left over, where the floors stand in `out` already and a first span is known. No copy of the remainders is held.
-fn spread(amount: u32, weights: &[u32], t: u64, first: Span, out: &mut [u32])
-    requires { FloorsHeld amount weights.now t out.old × (first.high ≤ most_total)
-        × Bracket (lack_of amount weights.now) one (length weights.now) (left_over amount weights.now) first.low
-        first.high first.left }
-    ensures { Filled 0 out.old out.new (length weights.now)
-        (share_of amount weights.now) }
+fn spread(p: &Split, first: Span, out: &mut [u32])
+    requires { FloorsHeld p.now.amount p.now.weights.now p.now.total out.old × (first.high ≤ most_total)
+        × Bracket (lack_of p.now.amount p.now.weights.now) one (length p.now.weights.now)
+        (left_over p.now.amount p.now.weights.now) first.low first.high first.left }
+    ensures { Filled 0 out.old out.new (length p.now.weights.now)
+        (share_of p.now.amount p.now.weights.now) }
 {
-    let b = crossing(amount, weights, t, first, out);
-    give(amount, weights, t, b.low, b.left, out);
+    let b = crossing(p, first, out);
+    give(p, b.low, b.left, out);
 }
 
 // How wide the first classes are: few weights need few classes.
@@ -436,13 +380,14 @@ fn first_shift(n: usize, t: u64) -> u32
     requires { 0 < t }
     ensures { (result < 64) × (2 ^ result ≤ t) }
 {
-    if n <= 8 {
-        return shift_for(t, 60);
-    }
-    if n <= 32 {
-        return shift_for(t, 59);
-    }
-    shift_for(t, 58)
+    shift_for(
+        t,
+        match n {
+            0..=8 => 60,
+            9..=32 => 59,
+            _ => 58,
+        },
+    )
 }
 
 // The shares, in a list that has room for them.
@@ -451,54 +396,54 @@ fn fill(amount: u32, weights: &[u32], out: &mut [u32])
     ensures { Filled 0 out.old out.new (length weights.now)
         (share_of amount weights.now) }
 {
-    let t = total_of(weights);
-    if t == 0 {
-        clear(weights.len(), out);
+    let total = total_of(weights);
+    if total == 0 {
+        out[..weights.len()].fill(0);
         return;
     }
-    fill_some(amount, weights, t, out);
+    fill_some(
+        &Split {
+            amount,
+            weights,
+            total,
+        },
+        out,
+    );
 }
 
-// The floors stand in `out` afterwards; handed back is a first span in which the kWh left over cross, or one that ends at 0 where
-// none is left over. Its counts are gone before the span is narrowed, which takes counts of its own.
-fn begin(amount: u32, weights: &[u32], t: u64, out: &mut [u32]) -> Span
-    requires { Sharing weights.now t × (length weights.now ≤ length out.old) }
-    ensures { FirstSpan amount weights.now out.old result.low result.high result.left out.new }
+// The floors stand in `out` afterwards; handed back is a first span in which the kWh left over cross, where there are any. Its counts
+// are gone before the span is narrowed, which takes counts of its own.
+fn begin(p: &Split, out: &mut [u32]) -> Option<Span>
+    requires { Sharing p.now.weights.now p.now.total × (length p.now.weights.now ≤ length out.old) }
+    ensures floors { Filled 0 out.old out.new (length p.now.weights.now)
+        (floor_of p.now.amount p.now.weights.now) }
+    ensures span { MatchOption result (left_over p.now.amount p.now.weights.now ≡ 0)
+        (λ b. FirstSpan p.now.amount p.now.weights.now b.low b.high b.left) }
 {
-    let s = first_shift(weights.len(), t);
+    let s = first_shift(p.weights.len(), p.total);
     let mut counts = [0u32; 64];
-    let left = floors(amount, weights, t, s, out, &mut counts);
+    let left = floors(p, s, out, &mut counts);
     if left == 0 {
-        return Span {
-            low: 0,
-            high: 0,
-            left: 0,
-            held: 0,
-        };
+        return None;
     }
-    choose(
-        &counts,
-        s,
-        Span {
-            low: 0,
-            high: t,
-            left,
-            held: 0,
-        },
-    )
+    let whole = Span {
+        low: 0,
+        high: p.total,
+        left,
+        held: 0,
+    };
+    Some(choose(&counts, s, whole))
 }
 
 // The shares of a total above 0.
-fn fill_some(amount: u32, weights: &[u32], t: u64, out: &mut [u32])
-    requires { Sharing weights.now t × (length weights.now ≤ length out.old) }
-    ensures { Filled 0 out.old out.new (length weights.now)
-        (share_of amount weights.now) }
+fn fill_some(p: &Split, out: &mut [u32])
+    requires { Sharing p.now.weights.now p.now.total × (length p.now.weights.now ≤ length out.old) }
+    ensures { Filled 0 out.old out.new (length p.now.weights.now)
+        (share_of p.now.amount p.now.weights.now) }
 {
-    let first = begin(amount, weights, t, out);
-    if first.high == 0 {
-        return;
+    if let Some(first) = begin(p, out) {
+        spread(p, first, out);
     }
-    spread(amount, weights, t, first, out);
 }
 
 // Shares the amount over the weights: share i goes to cell i of `out`, and cells past those stay. A refusal writes nothing.
@@ -512,5 +457,5 @@ pub fn share(amount: u32, weights: &[u32], out: &mut [u32]) -> Verdict
         return refusals::refuse(Refusal::ROOM, 0);
     }
     fill(amount, weights, out);
-    Verdict::Fine
+    Ok(())
 }

@@ -5,16 +5,14 @@
 ghost use Rattle.std.specs.Prelude.{◌≤◌, length};
 ghost use Rattle.share.specs.Share.{most_weights};
 
-use input::cases::{Case, Got, Next};
+use input::cases::Broken;
 use refusals::Verdict;
 use share::MOST_WEIGHTS;
 use std::io;
 use std::io::Read;
 
-fn print_first<P: Print>(rt: &P, list: &[u32; MOST_WEIGHTS], n: usize) -> io::Result<()>
-    requires { n ≤ most_weights }
-{
-    for x in &list[..n] {
+fn print_list<P: Print>(rt: &P, list: &[u32]) -> io::Result<()> {
+    for x in list {
         print!(rt; " {x}")?;
     }
     Ok(())
@@ -25,23 +23,20 @@ fn print_shares<P: Print>(rt: &P, amount: u32, weights: &[u32]) -> io::Result<()
     requires { length weights.now ≤ most_weights }
 {
     let mut out = [0u32; MOST_WEIGHTS];
-    let answer = share::share(amount, weights, &mut out);
-    match answer {
-        Verdict::Fine => print_first(rt, &out, weights.len()),
-        Verdict::Refused(r) => print!(rt; " refused {} {}", r.number, r.place),
+    match share::share(amount, weights, &mut out) {
+        Ok(()) => print_list(rt, &out[..weights.len()]),
+        Err(r) => print!(rt; " refused {} {}", r.number, r.place),
     }
 }
 
 // The next case, and whether to go on.
 fn run_case<P: Print + Eprint, R: Read>(rt: &P, from: &mut R, case: u64) -> io::Result<bool> {
-    let head = input::cases::next_number(from);
-    let Next::Number(amount) = head else {
+    let Ok(Some(amount)) = input::cases::next_number(from) else {
         return Ok(false);
     };
     let mut weights = [0u32; MOST_WEIGHTS];
-    let list = input::cases::read_list(from, &mut weights);
-    let Got::Cells(n) = list else {
-        input::cases::complain(rt, Case::Cut);
+    let Some(n) = input::cases::read_list(from, &mut weights) else {
+        input::cases::complain(rt, Err(Broken::Cut));
         return Ok(false);
     };
     print!(rt; "share {case}")?;

@@ -1,4 +1,5 @@
 -- What reading has made sure of in an accepted sheet, and the way back: a sheet of which all this holds is accepted. Assumes nothing.
+use Rattle.std.specs.Prelude.{Ok, Err}
 use Prim.Native.Nat.{ℕ, ◌+◌, ◌%◌, ◌≤◌, ◌<◌}
 use mathlib.Core.Path.{◌≡◌, refl, sym, subst}
 use mathlib.Core.Bool.{true, ◌&&◌}
@@ -9,7 +10,7 @@ use lib.ListN.{length}
 use lib.Dec.{leb, eqb}
 use borrow.Author.Tests.{leb-true, eqb-true, le-leb, eq-eqb, lt-ltb, le-ltb}
 use Rattle.refusals.specs.declared.Refusal.{Refusal}
-use Rattle.refusals.specs.declared.Verdict.{Verdict}
+use Rattle.refusals.specs.Refusals.{Verdict}
 use Rattle.limits.specs.Limits.{most_agents, most_boundaries, most_plants, most_contracts}
 use Rattle.octets.specs.Bytes.{words_at}
 use Rattle.rows.specs.Rows.{is_agent, agent_blank, boundary_blank, agent_good, boundary_good, plant_good, contract_good}
@@ -22,7 +23,6 @@ use Rattle.sheet.specs.Reading.{counts_good, distances_good, layout_good, kind_a
 use Rattle.sheet.specs.Reading.{plant_verdict, contract_verdict, checks, read_verdict, reading, read_of}
 use Rattle.sheet.specs.Asking.{agent_at, boundary_at, plant_at, contract_at}
 use Rattle.sheet.specs.declared.Counts.{Counts}
-use Rattle.sheet.specs.declared.Reading.{Reading}
 use Rattle.refusals.proofs.Fine.{fine_parts, parts_fine, fine_test, each_fine, all_fine}
 
 -- every test of reading holds
@@ -76,12 +76,12 @@ layout_length n c e h =
     rw (le-leb 32 n (omega arith), le-leb n longest (omega arith), eq-eqb (n % 16) 0 m)
 
 -- ---- from an accepted sheet
-fine_reading : (v : Verdict) (k c : Counts) → reading v k ≡ Reading.Accepted c → (v ≡ Verdict.Fine) × (k ≡ c)
-fine_reading Verdict.Fine k c e = (refl, cc)
-fine_reading (Verdict.Refused r) k c e = let z : ◌≡◌ {A = ℕ} 0 1 = cc in let no : ⊥ = omega arith in absurd no
+fine_reading : (v : Verdict) (k c : Counts) → reading v k ≡ Ok c → (v ≡ Ok tt) × (k ≡ c)
+fine_reading (Ok tt) k c e = (refl, cc)
+fine_reading (Err r) k c e = let z : ◌≡◌ {A = ℕ} 0 1 = cc in let no : ⊥ = omega arith in absurd no
 
 module _ (s : List ℕ) where
-  fine_whole : read_verdict s ≡ Verdict.Fine → Whole s (counts_of s)
+  fine_whole : read_verdict s ≡ Ok tt → Whole s (counts_of s)
   unfolding read_verdict layout_good agent_verdict boundary_verdict plant_verdict contract_verdict
   fine_whole e =
       let c = counts_of s in
@@ -111,7 +111,7 @@ module _ (s : List ℕ) where
       }
 
   -- ---- and back
-  whole_fine : Whole s (counts_of s) → read_verdict s ≡ Verdict.Fine
+  whole_fine : Whole s (counts_of s) → read_verdict s ≡ Ok tt
   unfolding read_verdict layout_good agent_verdict boundary_verdict plant_verdict contract_verdict
   whole_fine w =
       let c = counts_of s in
@@ -136,23 +136,23 @@ module _ (s : List ℕ) where
       )
 
 -- an accepted sheet is whole
-pub accepted_whole : (s : List ℕ) (c : Counts) → read_of s ≡ Reading.Accepted c → Whole s c
+pub accepted_whole : (s : List ℕ) (c : Counts) → read_of s ≡ Ok c → Whole s c
 unfolding read_of
 accepted_whole s c e =
     let h = fine_reading (read_verdict s) (counts_of s) c e in
     subst (λ (k : Counts). Whole s k) h.1 (fine_whole s h.0)
 
 -- a refused sheet has reading's refusal
-pub refused_verdict : (s : List ℕ) (r : Refusal) → read_of s ≡ Reading.Refused r → read_verdict s ≡ Verdict.Refused r
+pub refused_verdict : (s : List ℕ) (r : Refusal) → read_of s ≡ Err r → read_verdict s ≡ Err r
 unfolding read_of
 refused_verdict s r e = go (read_verdict s) e
   where
-    go : (v : Verdict) → reading v (counts_of s) ≡ Reading.Refused r → v ≡ Verdict.Refused r
-    go Verdict.Fine e = let z : ◌≡◌ {A = ℕ} 0 1 = cc in absurd (omega arith)
-    go (Verdict.Refused q) e = cc
+    go : (v : Verdict) → reading v (counts_of s) ≡ Err r → v ≡ Err r
+    go (Ok tt) e = let z : ◌≡◌ {A = ℕ} 0 1 = cc in absurd (omega arith)
+    go (Err q) e = cc
 
 -- and a whole sheet is accepted
-pub whole_accepted : (s : List ℕ) (c : Counts) → Whole s c → read_of s ≡ Reading.Accepted c
+pub whole_accepted : (s : List ℕ) (c : Counts) → Whole s c → read_of s ≡ Ok c
 unfolding read_of
 whole_accepted s c w =
     let h = whole_fine s (subst (λ (k : Counts). Whole s k) (sym w.counts) w) in
@@ -199,11 +199,11 @@ pub record ContractSound (s : List ℕ) (c : Counts) (i : ℕ) : Type 0 where
   pub fits : ContractFits (kind_at s c (contract_at s c i).seller) (kind_at s c (contract_at s c i).buyer)
       (contract_at s c i)
 
-module _ (s : List ℕ) (c : Counts) (e : read_of s ≡ Reading.Accepted c) where
+module _ (s : List ℕ) (c : Counts) (e : read_of s ≡ Ok c) where
   pub accepted_counts : c ≡ counts_of s
   accepted_counts = sym (accepted_whole s c e).counts
 
-  pub accepted_fine : read_verdict s ≡ Verdict.Fine
+  pub accepted_fine : read_verdict s ≡ Ok tt
   unfolding read_of
   accepted_fine = (fine_reading (read_verdict s) (counts_of s) c e).0
 

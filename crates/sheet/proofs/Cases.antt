@@ -1,5 +1,6 @@
 -- A table of sheets and what reading and asking answer, by the definitions alone: the paper's worked hour, the empty sheet, one byte
 -- less, a retailer that sells, and must-runs on each side of their bounds. Assumes nothing.
+use Rattle.std.specs.Prelude.{Ok, Err}
 use Prim.Native.Nat.{ℕ, ◌*◌, ◌+◌, ◌/◌, ◌%◌}
 use mathlib.Core.Path.{◌≡◌, refl}
 use mathlib.Core.List.{List, [], ◌∷◌, map, replicate}
@@ -9,8 +10,6 @@ use Rattle.sheet.specs.Reading.{counts_of, distances_good, layout_good, kind_at,
 use Rattle.sheet.specs.Reading.{boundary_verdict, plant_verdict, contract_verdict, read_verdict, read_of}
 use Rattle.sheet.specs.Asking.{rows_in, fields, fields_at, asked_row, row_of}
 use Rattle.sheet.specs.declared.Counts.{Counts}
-use Rattle.sheet.specs.declared.Reading.{Reading}
-use Rattle.sheet.specs.declared.RowRead.{RowRead}
 
 -- 32-bit numbers as bytes, the lowest first
 abbrev spelled : List ℕ → List ℕ
@@ -67,10 +66,10 @@ abbrev counts : (agents boundaries plants contracts : ℕ) → Counts
 counts a b p c = record { agents = a; boundaries = b; plants = p; contracts = c }
 
 pub read_cases : map read_of (replicate 31 0 ∷ replicate 32 0 ∷ hour ∷ march ∷ [])
-    ≡ (Reading.Refused (refusal 1 0)
-    ∷ Reading.Accepted (counts 0 0 0 0)
-    ∷ Reading.Accepted (counts 4 4 3 4)
-    ∷ Reading.Refused (refusal 6 1)
+    ≡ (Err (refusal 1 0)
+    ∷ Ok (counts 0 0 0 0)
+    ∷ Ok (counts 4 4 3 4)
+    ∷ Err (refusal 6 1)
     ∷ [])
 unfolding u32_at words_at counts_of distances_good layout_good kind_at agent_verdict boundary_verdict plant_verdict contract_verdict first_bad
     read_verdict read_of
@@ -78,11 +77,11 @@ read_cases = refl
 
 -- a flexible plant must run nothing, an inflexible one at most its availability
 pub must_run_cases : map read_of (plant_only 0 0 ∷ plant_only 0 1 ∷ plant_only 1 0 ∷ plant_only 1 100 ∷ plant_only 1 101 ∷ [])
-    ≡ (Reading.Accepted (counts 1 0 1 0)
-    ∷ Reading.Refused (refusal 5 0)
-    ∷ Reading.Accepted (counts 1 0 1 0)
-    ∷ Reading.Accepted (counts 1 0 1 0)
-    ∷ Reading.Refused (refusal 5 0)
+    ≡ (Ok (counts 1 0 1 0)
+    ∷ Err (refusal 5 0)
+    ∷ Ok (counts 1 0 1 0)
+    ∷ Ok (counts 1 0 1 0)
+    ∷ Err (refusal 5 0)
     ∷ [])
 unfolding u32_at words_at counts_of distances_good layout_good kind_at agent_verdict boundary_verdict plant_verdict contract_verdict first_bad
     read_verdict read_of
@@ -91,13 +90,13 @@ must_run_cases = refl
 -- the worked hour asked for rows: a bad section is reported before a bad row
 pub row_cases : map (λ (q : ℕ × ℕ). row_of hour (counts 4 4 3 4) q.0 q.1)
     ((1, 3) ∷ (2, 3) ∷ (3, 2) ∷ (4, 3) ∷ (4, 4) ∷ (0, 0) ∷ (5, 99) ∷ [])
-    ≡ (RowRead.Row (fields 2 0 0 0 0)
-    ∷ RowRead.Row (fields 2 1000 400 0 0)
-    ∷ RowRead.Row (fields 0 1 0 9000 100)
-    ∷ RowRead.Row (fields 3 2 2 6500 500)
-    ∷ RowRead.Refused (refusal 12 4)
-    ∷ RowRead.Refused (refusal 12 0)
-    ∷ RowRead.Refused (refusal 12 5)
+    ≡ (Ok (fields 2 0 0 0 0)
+    ∷ Ok (fields 2 1000 400 0 0)
+    ∷ Ok (fields 0 1 0 9000 100)
+    ∷ Ok (fields 3 2 2 6500 500)
+    ∷ Err (refusal 12 4)
+    ∷ Err (refusal 12 0)
+    ∷ Err (refusal 12 5)
     ∷ [])
 unfolding u32_at words_at rows_in fields_at asked_row row_of
 row_cases = refl

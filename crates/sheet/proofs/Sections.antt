@@ -1,4 +1,5 @@
 -- Laws of sections by their number, and of reading. Assumes nothing.
+use Rattle.std.specs.Prelude.{Ok, Err}
 use Prim.Native.Nat.{ℕ, zero, suc, ◌+◌, ◌*◌, ◌/◌, ◌%◌, ◌≤◌, ◌<◌}
 use mathlib.Core.Path.{◌≡◌, refl, sym, ap, ◌∙◌, fun_ext}
 use mathlib.Core.Bool.{Bool, true, false, ◌&&◌, cond}
@@ -9,7 +10,7 @@ use lib.ListN.{length}
 use lib.Dec.{leb, eqb}
 use borrow.Author.Tests.{leb-true, eqb-true, lt-ltb, le-ltb}
 use Rattle.refusals.specs.Refusals.{bad_length, bad_layout, refusal, first_bad}
-use Rattle.refusals.specs.declared.Verdict.{Verdict}
+use Rattle.refusals.specs.Refusals.{Verdict}
 use Rattle.octets.specs.Bytes.{words_of, words_at}
 use Rattle.rows.specs.Rows.{agent_of}
 use Rattle.sums.proofs.Tests.{and_left, and_right}
@@ -20,8 +21,6 @@ use Rattle.sheet.specs.Reading.{boundary_verdict, plant_verdict, contract_verdic
 use Rattle.sheet.specs.Asking.{rows_in, rows_before, section_of, is_section, fields_at, asked_row, row_of, row_in}
 use Rattle.sheet.specs.Sections.{kind_in, section_row_good, told_in, row_verdict, section_verdict, rows_verdict}
 use Rattle.sheet.specs.declared.Counts.{Counts}
-use Rattle.sheet.specs.declared.Reading.{Reading}
-use Rattle.sheet.specs.declared.RowRead.{RowRead}
 use Rattle.sheet.proofs.Accepted.{Few, good_few, kind_of_lem, no_kind, accepted_length}
 
 -- a section's rows are among the sheet's
@@ -51,12 +50,12 @@ module _ (s : List ℕ) where
   unfolding row_verdict section_row_good rows_before agent_verdict
   agents_told c = fun_ext (λ i. let z : 0 + i ≡ i = omega arith in rw z)
 
-  pub read_short : length_good (length s) ≡ false → read_of s ≡ Reading.Refused (refusal bad_length 0)
+  pub read_short : length_good (length s) ≡ false → read_of s ≡ Err (refusal bad_length 0)
   unfolding read_of read_verdict
   read_short e = rw e
 
   module _ (e : length_good (length s) ≡ true) where
-    pub read_crooked : layout_good s ≡ false → read_of s ≡ Reading.Refused (refusal bad_layout 0)
+    pub read_crooked : layout_good s ≡ false → read_of s ≡ Err (refusal bad_layout 0)
     unfolding read_of read_verdict
     read_crooked h = rw (e, h)
 
@@ -134,7 +133,7 @@ module _ (s : List ℕ) (c : Counts) (e : length s ≡ sheet_length c) where
   section_told k = rw (part_count k) (first_same _ _ (rows_in c k) 0 (λ i h. row_told_lem k i (omega arith)))
 
 -- ---- of an accepted sheet
-module _ (s : List ℕ) (c : Counts) (e : read_of s ≡ Reading.Accepted c) where
+module _ (s : List ℕ) (c : Counts) (e : read_of s ≡ Ok c) where
   -- a section has all the bytes of its rows
   pub section_length : (k : ℕ) → length (section_of s c k) ≡ 16 * rows_in c k
   section_length = part_length s c (accepted_length s c e)
@@ -163,6 +162,9 @@ module _ (s : List ℕ) (c : Counts) (e : read_of s ≡ Reading.Accepted c) wher
   pub row_there : (k i : ℕ)
       → is_section k ≡ true
       → i < rows_in c k
-      → row_in (read_of s) s k i ≡ RowRead.Row (fields_at s c k i)
+      → row_in (read_of s) s k i ≡ Ok (fields_at s c k i)
   unfolding row_of asked_row
   row_there k i h l = rw (e, h, lt-ltb _ _ l)
+
+-- what reading's steps follow from
+pub ruleset reading_steps = (has_trailer, read_short, read_crooked, read_rows, layout_few, layout_long)

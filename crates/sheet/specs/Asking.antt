@@ -1,8 +1,10 @@
 -- Document 01, 'The hour sheet' and refusal 12: a sheet's rows section by section, and what an accepted sheet is asked for.
 -- Assumes nothing.
+use Rattle.std.specs.Prelude.{Result, Ok, Err}
+use Rattle.refusals.specs.declared.Refusal.{Refusal}
 use Rattle.std.specs.Prelude.{ℕ, ◌+◌, ◌*◌, Bool, ◌&&◌, cond, List, [], ◌∷◌, take, drop, leb, ltb, eqb}
 use Rattle.refusals.specs.Refusals.{not_there, refused_unless, first_of}
-use Rattle.refusals.specs.declared.Verdict.{Verdict}
+use Rattle.refusals.specs.Refusals.{Verdict}
 use Rattle.octets.specs.Bytes.{words_at}
 use Rattle.rows.specs.Rows.{agent_of, boundary_of, plant_of, contract_of}
 use Rattle.limits.specs.declared.Agent.{Agent}
@@ -12,8 +14,6 @@ use Rattle.limits.specs.declared.Contract.{Contract}
 use Rattle.sheet.specs.Reading.{boundary_start, plant_start, contract_start}
 use Rattle.sheet.specs.declared.Counts.{Counts}
 use Rattle.sheet.specs.declared.Fields.{Fields}
-use Rattle.sheet.specs.declared.Reading.{Reading}
-use Rattle.sheet.specs.declared.RowRead.{RowRead}
 
 -- ---- the rows of each section, numbered from 0
 abbrev pub agent_at : List ℕ → Counts → ℕ → Agent
@@ -68,17 +68,17 @@ fields_at s c k i =
     (contract_fields (contract_at s c i)) no_fields
 
 -- ---- what asking for a row answers: its numbers, all zeros where it is refused
-abbrev pub row_read : Verdict → Fields → RowRead
-row_read Verdict.Fine f = RowRead.Row f
-row_read (Verdict.Refused r) f = RowRead.Refused r
+abbrev pub row_read : Verdict → Fields → Result Fields Refusal
+row_read (Ok tt) f = Ok f
+row_read (Err r) f = Err r
 
-abbrev pub verdict_in : RowRead → Verdict
-verdict_in (RowRead.Row f) = Verdict.Fine
-verdict_in (RowRead.Refused r) = Verdict.Refused r
+abbrev pub verdict_in : Result Fields Refusal → Verdict
+verdict_in (Ok f) = Ok tt
+verdict_in (Err r) = Err r
 
-abbrev pub fields_in : RowRead → Fields
-fields_in (RowRead.Row f) = f
-fields_in (RowRead.Refused r) = no_fields
+abbrev pub fields_in : Result Fields Refusal → Fields
+fields_in (Ok f) = f
+fields_in (Err r) = no_fields
 
 -- ---- asking an accepted sheet with these counts: 12 with the number asked for, a bad section before a bad row
 abbrev pub asked_section : ℕ → Verdict
@@ -87,7 +87,7 @@ asked_section k = refused_unless (is_section k) not_there k
 unfoldable pub asked_row : Counts → ℕ → ℕ → Verdict
 asked_row c k i = first_of (asked_section k ∷ refused_unless (ltb i (rows_in c k)) not_there i ∷ [])
 
-unfoldable pub row_of : List ℕ → Counts → ℕ → ℕ → RowRead
+unfoldable pub row_of : List ℕ → Counts → ℕ → ℕ → Result Fields Refusal
 row_of s c k i = row_read (asked_row c k i) (fields_at s c k i)
 
 -- a section is that stretch of the sheet's own bytes, and empty where there is no such section
@@ -95,14 +95,14 @@ unfoldable pub section_of : List ℕ → Counts → ℕ → List ℕ
 section_of s c k = take (16 * rows_in c k) (drop (16 * rows_before c k) s)
 
 -- ---- asking any bytes: reading's refusals first
-abbrev pub row_in : Reading → List ℕ → ℕ → ℕ → RowRead
-row_in (Reading.Accepted c) s k i = row_of s c k i
-row_in (Reading.Refused r) s k i = RowRead.Refused r
+abbrev pub row_in : Result Counts Refusal → List ℕ → ℕ → ℕ → Result Fields Refusal
+row_in (Ok c) s k i = row_of s c k i
+row_in (Err r) s k i = Err r
 
-abbrev pub section_in : Reading → List ℕ → ℕ → List ℕ
-section_in (Reading.Accepted c) s k = section_of s c k
-section_in (Reading.Refused r) s k = []
+abbrev pub section_in : Result Counts Refusal → List ℕ → ℕ → List ℕ
+section_in (Ok c) s k = section_of s c k
+section_in (Err r) s k = []
 
-abbrev pub section_answer : Reading → ℕ → Verdict
-section_answer (Reading.Accepted c) k = asked_section k
-section_answer (Reading.Refused r) k = Verdict.Refused r
+abbrev pub section_answer : Result Counts Refusal → ℕ → Verdict
+section_answer (Ok c) k = asked_section k
+section_answer (Err r) k = Err r

@@ -1,15 +1,16 @@
 -- Document 01, 'The hour sheet' and 'When the sheet is turned away': reading gives refusals 1 to 6. The first bad row ends it.
 -- Assumes nothing.
+use Rattle.std.specs.Prelude.{Result, Ok, Err}
+use Rattle.refusals.specs.declared.Refusal.{Refusal}
 use Rattle.std.specs.Prelude.{ℕ, ◌+◌, ◌-◌, ◌*◌, ◌/◌, ◌%◌, Bool, ◌&&◌, cond, List, [], ◌∷◌, length, leb, ltb, eqb}
 use Rattle.refusals.specs.Refusals.{bad_length, bad_layout, bad_agent, bad_boundary, bad_plant, bad_contract, refused_unless, first_of, first_bad}
-use Rattle.refusals.specs.declared.Verdict.{Verdict}
+use Rattle.refusals.specs.Refusals.{Verdict}
 use Rattle.limits.specs.Limits.{most_agents, most_boundaries, most_plants, most_contracts}
 use Rattle.octets.specs.Bytes.{words_at}
 use Rattle.rows.specs.Rows.{agent_of, boundary_of, plant_of, contract_of, agent_blank, boundary_blank}
 use Rattle.limits.specs.Limits.{few_rows}
 use Rattle.rows.specs.Rows.{agent_good, boundary_good, plant_good, contract_good}
 use Rattle.sheet.specs.declared.Counts.{Counts}
-use Rattle.sheet.specs.declared.Reading.{Reading}
 
 -- sections stand in the order agents, boundaries, plants, contracts from byte 0 with no gap: the first row of each, and of the trailer
 abbrev pub boundary_start : Counts → ℕ
@@ -104,9 +105,9 @@ checks s =
 unfoldable pub read_verdict : List ℕ → Verdict
 read_verdict s = first_of (checks s)
 
-abbrev pub reading : Verdict → Counts → Reading
-reading Verdict.Fine c = Reading.Accepted c
-reading (Verdict.Refused r) c = Reading.Refused r
+abbrev pub reading : Verdict → Counts → Result Counts Refusal
+reading (Ok tt) c = Ok c
+reading (Err r) c = Err r
 
-unfoldable pub read_of : List ℕ → Reading
+unfoldable pub read_of : List ℕ → Result Counts Refusal
 read_of s = reading (read_verdict s) (counts_of s)

@@ -2,7 +2,7 @@
 -- `read_rows` says that the verdict is. Assumes nothing.
 use Rattle.std.specs.Prelude.{ℕ, ◌+◌, ◌*◌, ◌<◌, Bool, true, ◌&&◌, List, [], ◌∷◌, ◌≡◌, length}
 use Rattle.refusals.specs.Refusals.{refused_unless, first_of, first_bad}
-use Rattle.refusals.specs.declared.Verdict.{Verdict}
+use Rattle.refusals.specs.Refusals.{Verdict}
 use Rattle.octets.specs.Bytes.{words_at}
 use Rattle.rows.specs.Rows.{agent_of, boundary_of, plant_of, contract_of, agent_blank}
 use Rattle.rows.specs.Rows.{boundary_blank, agent_good, boundary_good, plant_good, contract_good}

@@ -5,30 +5,13 @@ ghost use Rattle.sheet.specs.Counting.{counting_of};
 use crate::{Counts, counts_fit, counts_of, length_good};
 use refusals::Refusal;
 
-// How many rows each section has, or why that can't be said.
-#[derive(Clone, Copy)]
-pub enum Counting {
-    Rows(Counts),
-    Refused(Refusal),
-}
-
 // The counts, where they are within their limits and fit the length.
-pub fn count_rows(s: &[u8]) -> Counting
+#[tactic(auto, using(crate::proofs::Counted::counting_steps))]
+pub fn count_rows(s: &[u8]) -> Result<Counts, Refusal>
     ensures { result ≡ counting_of s.now }
 {
-    if !length_good(s.len()) {
-        return Counting::Refused(Refusal {
-            number: Refusal::LENGTH,
-            place: 0,
-        });
-    }
+    refusals::refuse_unless(length_good(s.len()), Refusal::LENGTH, 0)?;
     let c = counts_of(s);
-    if counts_fit(s, c) {
-        Counting::Rows(c)
-    } else {
-        Counting::Refused(Refusal {
-            number: Refusal::LAYOUT,
-            place: 0,
-        })
-    }
+    refusals::refuse_unless(counts_fit(s, c), Refusal::LAYOUT, 0)?;
+    Ok(c)
 }

@@ -31,28 +31,14 @@ impl Counts {
         + 32;
 }
 
-// What reading a sheet answers.
-#[derive(Clone, Copy)]
-pub enum Reading {
-    Accepted(Counts),
-    Refused(Refusal),
-}
-
 // A row's named fields in byte order, without fillers; the rest 0.
-#[derive(Clone, Copy)]
+#[derive(Clone, Copy, Default)]
 pub struct Fields {
     pub first: u32,
     pub second: u32,
     pub third: u32,
     pub fourth: u32,
     pub fifth: u32,
-}
-
-// What asking for a row answers.
-#[derive(Clone, Copy)]
-pub enum RowRead {
-    Row(Fields),
-    Refused(Refusal),
 }
 
 // Refusal 1 is given where this is false.
@@ -62,13 +48,7 @@ pub(crate) fn length_good(n: usize) -> bool
     (32 <= n) & (n <= Counts::LONGEST) & (n % 16 == 0)
 }
 
-// A count of the trailer: up to 2^32, so that no sum of counts wraps.
-fn count(x: u32) -> usize
-    ensures { (result ≡ x) × (result < 4294967296) }
-{
-    x as usize
-}
-
+#[tactic(auto, unfolding(crate::specs::Reading::counts_of))]
 pub(crate) fn counts_of(s: &[u8]) -> Counts
     requires { 32 ≤ length s.now }
     ensures { (result ≡ counts_of s.now) × Addable result }
@@ -77,10 +57,10 @@ pub(crate) fn counts_of(s: &[u8]) -> Counts
     let u = octets::row_at(s, t);
     let v = octets::row_at(s, t + 1);
     Counts {
-        agents: count(u.second),
-        boundaries: count(u.fourth),
-        plants: count(v.second),
-        contracts: count(v.fourth),
+        agents: u.second as usize,
+        boundaries: u.fourth as usize,
+        plants: v.second as usize,
+        contracts: v.fourth as usize,
     }
 }
 
@@ -91,6 +71,7 @@ fn counts_good(c: Counts) -> bool
 }
 
 // Each distance is the one back from the trailer to the section's first byte.
+#[tactic(auto, unfolding(crate::specs::Reading::distances_good))]
 fn distances_good(s: &[u8], c: Counts) -> bool
     requires { (32 ≤ length s.now) × Addable c }
     ensures { result ≡ distances_good s.now c }
@@ -102,10 +83,10 @@ fn distances_good(s: &[u8], c: Counts) -> bool
     let p = b + c.boundaries;
     let k = p + c.plants;
     let end = k + c.contracts;
-    (count(u.first) == 16 * end)
-        & (count(u.third) == 16 * (end - b))
-        & (count(v.first) == 16 * (end - p))
-        & (count(v.third) == 16 * (end - k))
+    (u.first as usize == 16 * end)
+        & (u.third as usize == 16 * (end - b))
+        & (v.first as usize == 16 * (end - p))
+        & (v.third as usize == 16 * (end - k))
 }
 
 fn size(c: Counts) -> usize
@@ -124,6 +105,7 @@ pub(crate) fn counts_fit(s: &[u8], c: Counts) -> bool
 }
 
 // Refusal 2 is given where this is false.
+#[tactic(auto, unfolding(crate::specs::Reading::layout_good))]
 fn layout_good(s: &[u8], c: Counts) -> bool
     requires { (32 ≤ length s.now) × (c ≡ counts_of s.now) × Addable c }
     ensures { result ≡ layout_good s.now }
@@ -137,10 +119,7 @@ pub(crate) fn agent_fields(a: Agent) -> Fields
 {
     Fields {
         first: a.kind,
-        second: 0,
-        third: 0,
-        fourth: 0,
-        fifth: 0,
+        ..Fields::default()
     }
 }
 
@@ -180,34 +159,37 @@ pub(crate) fn contract_fields(k: Contract) -> Fields
     }
 }
 
-// Sections by their number: 1 agents, 2 boundaries, 3 plants, 4 contracts.
+// How many rows section k has. Sections go by the paper's numbers: callers ask by number, and one that is no section's has an answer.
+#[tactic(auto, unfolding(crate::specs::Asking::rows_in))]
 pub(crate) fn rows_in(c: Counts, k: u32) -> usize
     ensures { result ≡ rows_in c k }
 {
     match k {
-        1 => c.agents,
-        2 => c.boundaries,
-        3 => c.plants,
-        4 => c.contracts,
+        Agent::SECTION => c.agents,
+        Boundary::SECTION => c.boundaries,
+        Plant::SECTION => c.plants,
+        Contract::SECTION => c.contracts,
         _ => 0,
     }
 }
 
 // The rows that stand before section k.
+#[tactic(auto, unfolding(crate::specs::Asking::rows_before))]
 fn rows_before(c: Counts, k: u32) -> usize
     requires { Placeable (trailer_start c) }
     ensures { result ≡ rows_before c k }
 {
     match k {
-        1 => 0,
-        2 => c.agents,
-        3 => c.agents + c.boundaries,
-        4 => c.agents + c.boundaries + c.plants,
+        Agent::SECTION => 0,
+        Boundary::SECTION => c.agents,
+        Plant::SECTION => c.agents + c.boundaries,
+        Contract::SECTION => c.agents + c.boundaries + c.plants,
         _ => 0,
     }
 }
 
 // Section k: that stretch of the caller's own bytes, empty where there is no such section.
+#[tactic(auto, using(crate::proofs::Sections::section_within), unfolding(crate::specs::Asking::section_of))]
 pub(crate) fn part_of(s: &[u8], c: Counts, k: u32) -> &[u8]
     requires { Laid s.now c }
     ensures { result.now ≡ section_of s.now c k }
@@ -218,37 +200,24 @@ pub(crate) fn part_of(s: &[u8], c: Counts, k: u32) -> &[u8]
 }
 
 // What an answer says of the row: nothing, or the refusal.
-pub fn verdict_in(a: RowRead) -> Verdict
+pub fn verdict_in(a: Result<Fields, Refusal>) -> Verdict
     ensures { result ≡ verdict_in a }
 {
-    match a {
-        RowRead::Row(_) => Verdict::Fine,
-        RowRead::Refused(why) => Verdict::Refused(why),
-    }
+    a.map(|_| ())
 }
 
 // The row's numbers: all zeros where it is refused.
-pub fn fields_in(a: RowRead) -> Fields
+pub fn fields_in(a: Result<Fields, Refusal>) -> Fields
     ensures { result ≡ fields_in a }
 {
-    match a {
-        RowRead::Row(f) => f,
-        RowRead::Refused(_) => Fields {
-            first: 0,
-            second: 0,
-            third: 0,
-            fourth: 0,
-            fifth: 0,
-        },
-    }
+    a.unwrap_or_default()
 }
 
 // The kind of agent a by the agents' section: 0 where there is no such agent.
 fn kind_in(agents: &[u8], a: u32) -> u32
     ensures { result ≡ kind_in agents.now a }
 {
-    let agent = rows::agent_of(octets::row_at(agents, a as usize));
-    agent.kind
+    rows::agent_of(octets::row_at(agents, a as usize)).kind
 }
 
 fn agent_row_good(w: Words) -> bool
@@ -279,14 +248,15 @@ fn contract_row_good(agents: &[u8], w: Words) -> bool
 }
 
 // Whether a row of section k is good.
+#[tactic(auto, unfolding(crate::specs::Sections::section_row_good))]
 fn row_good(agents: &[u8], k: u32, w: Words) -> bool
     ensures { result ≡ section_row_good (kind_in agents.now) k w }
 {
     match k {
-        1 => agent_row_good(w),
-        2 => boundary_row_good(agents, w),
-        3 => plant_row_good(agents, w),
-        4 => contract_row_good(agents, w),
+        Agent::SECTION => agent_row_good(w),
+        Boundary::SECTION => boundary_row_good(agents, w),
+        Plant::SECTION => plant_row_good(agents, w),
+        Contract::SECTION => contract_row_good(agents, w),
         _ => true,
     }
 }
@@ -296,11 +266,8 @@ fn read_row(agents: &[u8], section: &[u8], k: u32, i: usize) -> Verdict
     requires { (k ≤ 4) × Placeable i }
     ensures { result ≡ told_in agents.now section.now k i }
 {
-    if row_good(agents, k, octets::row_at(section, i)) {
-        Verdict::Fine
-    } else {
-        refusals::refuse(k + 2, i as u32)
-    }
+    let good = row_good(agents, k, octets::row_at(section, i));
+    refusals::refuse_unless(good, k + 2, i as u32)
 }
 
 // The rows of section k, cut out of the sheet so that a row's place needs no test of its own: the first bad one ends the reading.
@@ -312,52 +279,30 @@ fn section_verdict(s: &[u8], c: Counts, k: u32) -> Verdict
     let section = part_of(s, c, k);
     let n = section.len() / 16;
     for i in 0..n {
-        let answer = read_row(agents, section, k, i);
-        let Verdict::Fine = answer else {
-            return answer;
-        };
+        read_row(agents, section, k, i)?;
     }
-    Verdict::Fine
+    Ok(())
 }
 
 // The four sections: the lowest number wins.
+#[tactic(auto, unfolding(crate::specs::Sections::rows_verdict))]
 fn rows_verdict(s: &[u8], c: Counts) -> Verdict
     requires { Laid s.now c }
     ensures { result ≡ rows_verdict s.now c }
 {
-    let a = section_verdict(s, c, Agent::SECTION);
-    let Verdict::Fine = a else {
-        return a;
-    };
-    let b = section_verdict(s, c, Boundary::SECTION);
-    let Verdict::Fine = b else {
-        return b;
-    };
-    let p = section_verdict(s, c, Plant::SECTION);
-    let Verdict::Fine = p else {
-        return p;
-    };
+    section_verdict(s, c, Agent::SECTION)?;
+    section_verdict(s, c, Boundary::SECTION)?;
+    section_verdict(s, c, Plant::SECTION)?;
     section_verdict(s, c, Contract::SECTION)
 }
 
-pub fn read(s: &[u8]) -> Reading
+#[tactic(auto, using(crate::proofs::Sections::reading_steps))]
+pub fn read(s: &[u8]) -> Result<Counts, Refusal>
     ensures { result ≡ read_of s.now }
 {
-    if !length_good(s.len()) {
-        return Reading::Refused(Refusal {
-            number: Refusal::LENGTH,
-            place: 0,
-        });
-    }
+    refusals::refuse_unless(length_good(s.len()), Refusal::LENGTH, 0)?;
     let c = counts_of(s);
-    if !layout_good(s, c) {
-        return Reading::Refused(Refusal {
-            number: Refusal::LAYOUT,
-            place: 0,
-        });
-    }
-    match rows_verdict(s, c) {
-        Verdict::Fine => Reading::Accepted(c),
-        Verdict::Refused(why) => Reading::Refused(why),
-    }
+    refusals::refuse_unless(layout_good(s, c), Refusal::LAYOUT, 0)?;
+    rows_verdict(s, c)?;
+    Ok(c)
 }

@@ -2,10 +2,10 @@
 ghost use Rattle.std.specs.Prelude.{◌≡◌};
 ghost use Rattle.sheet.specs.Reading.{read_of};
 ghost use Rattle.sheet.specs.Asking.{row_of, section_of};
-ghost use Rattle.sheet.specs.declared.Reading.{Reading};
 
 use crate::asking::{row_of, section_of};
-use crate::{Counts, RowRead};
+use crate::{Counts, Fields};
+use refusals::Refusal;
 
 #[derive(Clone, Copy)]
 pub struct OpenSheet<'a> {
@@ -14,15 +14,15 @@ pub struct OpenSheet<'a> {
 }
 
 pub fn open<'a>(bytes: &'a [u8], counts: Counts) -> OpenSheet<'a>
-    requires { read_of bytes.now ≡ Reading.Accepted counts }
+    requires { read_of bytes.now ≡ Ok counts }
     ensures { (result.bytes ≡ bytes.entry) × (result.counts ≡ counts) }
 {
     OpenSheet { bytes, counts }
 }
 
 // Row i of section k: 12 where there is none.
-pub fn row<'a>(o: OpenSheet<'a>, k: u32, i: u32) -> RowRead
-    requires { read_of o.bytes.now ≡ Reading.Accepted o.counts }
+pub fn row<'a>(o: OpenSheet<'a>, k: u32, i: u32) -> Result<Fields, Refusal>
+    requires { read_of o.bytes.now ≡ Ok o.counts }
     ensures { result ≡ row_of o.entry.bytes.now o.entry.counts k i }
 {
     row_of(o.bytes, o.counts, k, i)
@@ -30,15 +30,15 @@ pub fn row<'a>(o: OpenSheet<'a>, k: u32, i: u32) -> RowRead
 
 // Section k, as that stretch of the bytes that the sheet was opened over.
 pub fn stretch<'a>(o: OpenSheet<'a>, k: u32) -> &'a [u8]
-    requires { read_of o.bytes.now ≡ Reading.Accepted o.counts }
+    requires { read_of o.bytes.now ≡ Ok o.counts }
     ensures { result.now ≡ section_of o.entry.bytes.now o.entry.counts k }
 {
     section_of(o.bytes, o.counts, k)
 }
 
 // A sheet opened and asked for one row: whoever has plain bytes and the counts that `read` gave.
-pub fn kept_row(bytes: &[u8], counts: Counts, k: u32, i: u32) -> RowRead
-    requires { read_of bytes.now ≡ Reading.Accepted counts }
+pub fn kept_row(bytes: &[u8], counts: Counts, k: u32, i: u32) -> Result<Fields, Refusal>
+    requires { read_of bytes.now ≡ Ok counts }
     ensures { result ≡ row_of bytes.now counts k i }
 {
     row(open(bytes, counts), k, i)
@@ -46,7 +46,7 @@ pub fn kept_row(bytes: &[u8], counts: Counts, k: u32, i: u32) -> RowRead
 
 // The same for one section.
 pub fn kept_stretch(bytes: &[u8], counts: Counts, k: u32) -> &[u8]
-    requires { read_of bytes.now ≡ Reading.Accepted counts }
+    requires { read_of bytes.now ≡ Ok counts }
     ensures { result.now ≡ section_of bytes.now counts k }
 {
     stretch(open(bytes, counts), k)

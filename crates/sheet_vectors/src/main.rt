@@ -5,12 +5,10 @@
 
 ghost use Rattle.std.specs.Prelude.{◌≤◌, ◌<◌};
 
-use input::cases::Case;
 use limits::{Agent, Boundary, Contract, Plant};
 use refusals::Refusal;
-use sheet::{Counts, Fields, Reading};
+use sheet::{Counts, Fields};
 use std::io;
-use writing::Writing;
 
 // More cases than these are not looked at.
 const MOST_CASES: u64 = 1000000;
@@ -30,40 +28,21 @@ fn field(f: Fields, j: u32) -> u32 {
     }
 }
 
-fn put(out: &mut [u32], k: u32, x: u32) {
-    let i = k as usize;
-    if i < out.len() {
-        out[i] = x;
-    }
-}
-
 // The n numbers of a section, so many to a row, each asked for by itself.
 fn take_numbers(s: &[u8], section: u32, width: u32, n: u32, out: &mut [u32])
     requires { 0 < width }
 {
-    for k in 0..n {
+    for (k, cell) in (0..n).zip(out.iter_mut()) {
         let f = sheet::fields_in(sheet::asking::ask_row(s, section, k / width));
-        put(out, k, field(f, k % width));
+        *cell = field(f, k % width);
     }
-}
-
-fn starts_with(a: &[u8], s: &[u8]) -> bool {
-    if a.len() < s.len() {
-        return false;
-    }
-    for i in 0..s.len() {
-        if a[i] != s[i] {
-            return false;
-        }
-    }
-    true
 }
 
 // An accepted sheet's count: none is over 256.
 fn count(n: usize) -> u32
     ensures { result ≤ 256 }
 {
-    if n < 256 { n as u32 } else { 256 }
+    n.min(256) as u32
 }
 
 // Whether these numbers, written, are the sheet.
@@ -74,7 +53,6 @@ fn write_again(
     boundaries: &[u32],
     plants: &[u32],
     contracts: &[u32],
-    out: &mut [u8],
 ) -> bool {
     let a = c.agents;
     let b = c.boundaries;
@@ -92,33 +70,18 @@ fn write_again(
     if contracts.len() / 5 < k {
         return false;
     }
+    let mut out = [0u8; Counts::LONGEST];
     let answer = writing::write(
         &agents[..a],
         &boundaries[..4 * b],
         &plants[..5 * p],
         &contracts[..5 * k],
-        out,
+        &mut out,
     );
     match answer {
-        Writing::Done(n) => (n == s.len()) & starts_with(out, s),
-        Writing::Refused(_) => false,
+        Ok(n) => n == s.len() && out.starts_with(s),
+        Err(_) => false,
     }
-}
-
-fn take_and_write(
-    s: &[u8],
-    c: Counts,
-    agents: &mut [u32],
-    boundaries: &mut [u32],
-    plants: &mut [u32],
-    contracts: &mut [u32],
-    out: &mut [u8],
-) -> bool {
-    take_numbers(s, 1, 1, count(c.agents), agents);
-    take_numbers(s, 2, 4, 4 * count(c.boundaries), boundaries);
-    take_numbers(s, 3, 5, 5 * count(c.plants), plants);
-    take_numbers(s, 4, 5, 5 * count(c.contracts), contracts);
-    write_again(s, c, agents, boundaries, plants, contracts, out)
 }
 
 fn same_again(s: &[u8], c: Counts) -> bool {
@@ -126,16 +89,11 @@ fn same_again(s: &[u8], c: Counts) -> bool {
     let mut boundaries = [0u32; 4 * Boundary::MOST];
     let mut plants = [0u32; 5 * Plant::MOST];
     let mut contracts = [0u32; 5 * Contract::MOST];
-    let mut out = [0u8; Counts::LONGEST];
-    take_and_write(
-        s,
-        c,
-        &mut agents,
-        &mut boundaries,
-        &mut plants,
-        &mut contracts,
-        &mut out,
-    )
+    take_numbers(s, 1, 1, count(c.agents), &mut agents);
+    take_numbers(s, 2, 4, 4 * count(c.boundaries), &mut boundaries);
+    take_numbers(s, 3, 5, 5 * count(c.plants), &mut plants);
+    take_numbers(s, 4, 5, 5 * count(c.contracts), &mut contracts);
+    write_again(s, c, &agents, &boundaries, &plants, &contracts)
 }
 
 fn print_accepted<P: Print>(rt: &P, s: &[u8], c: Counts) -> io::Result<()> {
@@ -152,10 +110,9 @@ fn print_accepted<P: Print>(rt: &P, s: &[u8], c: Counts) -> io::Result<()> {
 
 fn print_case<P: Print>(rt: &P, case: u64, s: &[u8]) -> io::Result<()> {
     print!(rt; "case {case}\n")?;
-    let answer = sheet::read(s);
-    match answer {
-        Reading::Accepted(c) => print_accepted(rt, s, c),
-        Reading::Refused(r) => print_refused(rt, r),
+    match sheet::read(s) {
+        Ok(c) => print_accepted(rt, s, c),
+        Err(r) => print_refused(rt, r),
     }
 }
 
@@ -164,7 +121,7 @@ fn main(rt: HostRuntime) -> io::Result<()> {
     let mut from = rt.reader();
     for number in 0..MOST_CASES {
         let case = input::cases::read_case(&mut from, &mut buf);
-        let Case::Sheet(n) = case else {
+        let Ok(Some(n)) = case else {
             input::cases::complain(&rt, case);
             break;
         };

@@ -1,4 +1,5 @@
 -- Each of the five tests holds exactly if its point does, and nothing is refused exactly if all five hold. Assumes nothing.
+use Rattle.std.specs.Prelude.{Ok}
 use Prim.Native.Nat.{ℕ, ◌≤◌, ◌<◌}
 use native.Mathlib.Omega.{arith}
 use mathlib.Core.Bool.{Bool, true, false, true≢false, false≢true}
@@ -16,7 +17,7 @@ use Rattle.sums.proofs.Picks.{pick_lt, pick_ge}
 use Rattle.sums.proofs.Tests.{and_left, and_right, and_both, or_first, or_second, or_cases, all_true}
 use Rattle.sums.proofs.Cut.{cut}
 use Rattle.refusals.specs.Refusals.{bad_shares, bad_schedule, bad_price, bad_amounts, bad_lines, refused_unless}
-use Rattle.refusals.specs.declared.Verdict.{Verdict}
+use Rattle.refusals.specs.Refusals.{Verdict}
 use Rattle.refusals.proofs.Fine.{fine_parts, fine_test}
 use Rattle.hour.specs.Sheet.{Sheet, agents, plants, retails}
 use Rattle.hour.specs.Sound.{Sound}
@@ -231,7 +232,7 @@ module _ (s : Sheet) (price : ℕ) (l : Lent) where
   )
 
   -- NOTHING IS REFUSED EXACTLY IF THE FIVE POINTS HOLD
-  pub points_exact : Sound s → (points_verdict s price l ≡ Verdict.Fine) ↔ Holds s price l
+  pub points_exact : Sound s → (points_verdict s price l ≡ Ok tt) ↔ Holds s price l
   unfolding points_verdict
   points_exact ok = (told, tells)
     where
@@ -244,7 +245,7 @@ module _ (s : Sheet) (price : ℕ) (l : Lent) where
           ∷ refused_unless (lines_good s price l) bad_lines 0
           ∷ []
 
-      told : points_verdict s price l ≡ Verdict.Fine → Holds s price l
+      told : points_verdict s price l ≡ Ok tt → Holds s price l
       told e =
           let all = fine_parts five e in
           record {
@@ -255,7 +256,7 @@ module _ (s : Sheet) (price : ℕ) (l : Lent) where
             lines = lines_exact.0 (fine_test _ bad_lines 0 all.1.1.1.1.0);
           }
 
-      tells : Holds s price l → points_verdict s price l ≡ Verdict.Fine
+      tells : Holds s price l → points_verdict s price l ≡ Ok tt
       tells h =
           rw (
             (shares_exact s l).1 h.shares,

@@ -1,5 +1,6 @@
 -- The lists of our own settlement, of any sheet that settles, meet the five points: our tie rules and roundings are among those
 -- that a statement may have. Assumes nothing.
+use Rattle.std.specs.Prelude.{Ok}
 use Prim.Native.Nat.{ℕ, ◌-◌, ◌*◌, ◌<◌}
 use native.Mathlib.Omega.{arith}
 use mathlib.Core.Bool.{cond}
@@ -8,7 +9,6 @@ use Rattle.sums.specs.Lists.{at, total, list_to}
 use Rattle.sums.proofs.Sums.{sum_eq, peak_eq}
 use Rattle.sums.proofs.Keyed.{keyed_eq}
 use Rattle.sums.proofs.Lists.{list_to_eq}
-use Rattle.refusals.specs.declared.Verdict.{Verdict}
 use Rattle.share.proofs.Laws.{share_near, share_no_total}
 use Rattle.merit.specs.Merit.{hour_price}
 use Rattle.merit.proofs.LeastCost.{possible_eq}
@@ -35,7 +35,7 @@ pub record Tells (s : Sheet) (l : Lent) : Type 0 where
   pub schedule : (i : ℕ) → i < plants s → schedule_in l i ≡ scheduled s i
   pub amounts : (j : ℕ) → j < contracts s → amount_in l j ≡ amount s j
 
-module _ (s : Sheet) (ok : Sound s) (b : Balanced s) (fine : cover_verdict s ≡ Verdict.Fine) (l : Lent) (t : Tells s l)
+module _ (s : Sheet) (ok : Sound s) (b : Balanced s) (fine : cover_verdict s ≡ Ok tt) (l : Lent) (t : Tells s l)
   where
     share_is : (a : ℕ) → a < agents s → share_in l a ≡ loss_share s a
     share_is = share_told s l t.figures

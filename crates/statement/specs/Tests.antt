@@ -4,7 +4,7 @@ use Rattle.std.specs.Int.Signed.{le_z}
 use Rattle.sums.specs.Sums.{sum, peak, pick}
 use Rattle.sums.specs.Lists.{at, list_to}
 use Rattle.refusals.specs.Refusals.{bad_shares, bad_schedule, bad_price, bad_amounts, bad_lines, refused_unless, first_of}
-use Rattle.refusals.specs.declared.Verdict.{Verdict}
+use Rattle.refusals.specs.Refusals.{Verdict}
 use Rattle.merit.specs.Merit.{hour_price}
 use Rattle.hour.specs.Sheet.{Sheet, agents, plants, retails}
 use Rattle.hour.specs.Balance.{consumption, consumed, own_import, losses, dispatch_demand_by}

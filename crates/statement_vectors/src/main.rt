@@ -7,61 +7,43 @@
 ghost use Rattle.std.specs.Prelude.{◌<◌, ◌+◌, length};
 ghost use Rattle.input.specs.Cases.{GotWithin};
 
-use input::cases::{Case, Got, Next};
 use std::io;
 use std::io::Read;
 
 // More statements than these are not looked at.
 const MOST_STATEMENTS: u64 = 1000000;
 
-// So much below zero.
-fn minus(m: u64) -> i64
-    requires { m < 9223372036854775807 }
-{
-    0 - m as i64
-}
-
-// The number of 64 bits with a sign that these two halves are.
+// The number of 64 bits with a sign that these two halves are; 0 for the two least, which no statement has.
 fn signed(low: u32, high: u32) -> i64 {
-    if high < 2147483648 {
-        return (sums::wide(high) * 4294967296 + sums::wide(low)) as i64;
-    }
-    let below = sums::wide(4294967295 - high) * 4294967296 + sums::wide(4294967295 - low);
-    if below < 9223372036854775806 {
-        return minus(below + 1);
-    }
-    0
+    let x = (u64::from(high) * 4294967296 + u64::from(low)).cast_signed();
+    if x < -9223372036854775806 { 0 } else { x }
 }
 
 // The next two numbers, the low half first.
 fn next_signed<R: Read>(from: &mut R) -> Option<i64> {
-    let Next::Number(low) = input::cases::next_number(from) else {
+    let Ok(Some(low)) = input::cases::next_number(from) else {
         return None;
     };
-    let Next::Number(high) = input::cases::next_number(from) else {
+    let Ok(Some(high)) = input::cases::next_number(from) else {
         return None;
     };
     Some(signed(low, high))
 }
 
-fn read_money<R: Read>(from: &mut R, out: &mut [i64]) -> Got
+fn read_money<R: Read>(from: &mut R, out: &mut [i64]) -> Option<usize>
     ensures { GotWithin result (length out.new) }
 {
-    let head = input::cases::next_number(from);
-    let Next::Number(count) = head else {
-        return Got::Cut;
+    let Ok(Some(count)) = input::cases::next_number(from) else {
+        return None;
     };
     let n = count as usize;
     if out.len() < n {
-        return Got::Cut;
+        return None;
     }
-    for i in 0..n {
-        let Some(m) = next_signed(from) else {
-            return Got::Cut;
-        };
-        out[i] = m;
+    for cell in &mut out[..n] {
+        *cell = next_signed(from)?;
     }
-    Got::Cells(n)
+    Some(n)
 }
 
 fn print_answer<P: Print>(rt: &P, number: u64, refusal: u32, place: u32) -> io::Result<()> {
@@ -79,24 +61,19 @@ fn run_statement<P: Print, R: Read>(
     let mut money = [0i64; 1024];
     let mut schedule = [0u32; 1024];
     let mut amounts = [0u32; 1024];
-    let head = input::cases::next_number(from);
-    let Next::Number(price) = head else {
+    let Ok(Some(price)) = input::cases::next_number(from) else {
         return Ok(false);
     };
-    let first = input::cases::read_list(from, &mut figures);
-    let Got::Cells(f) = first else {
+    let Some(f) = input::cases::read_list(from, &mut figures) else {
         return Ok(false);
     };
-    let second = read_money(from, &mut money);
-    let Got::Cells(m) = second else {
+    let Some(m) = read_money(from, &mut money) else {
         return Ok(false);
     };
-    let third = input::cases::read_list(from, &mut schedule);
-    let Got::Cells(s) = third else {
+    let Some(s) = input::cases::read_list(from, &mut schedule) else {
         return Ok(false);
     };
-    let fourth = input::cases::read_list(from, &mut amounts);
-    let Got::Cells(t) = fourth else {
+    let Some(t) = input::cases::read_list(from, &mut amounts) else {
         return Ok(false);
     };
     let mut answer = [0u32; 2];
@@ -117,8 +94,7 @@ fn main(rt: HostRuntime) -> io::Result<()> {
     let mut buf = [0u8; 65536];
     let mut from = rt.reader();
     for number in 0..MOST_STATEMENTS {
-        let sheet = input::cases::read_case(&mut from, &mut buf);
-        let Case::Sheet(n) = sheet else {
+        let Ok(Some(n)) = input::cases::read_case(&mut from, &mut buf) else {
             break;
         };
         let whole = run_statement(&rt, &mut from, number, &buf[..n])?;

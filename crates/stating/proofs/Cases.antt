@@ -1,5 +1,6 @@
 -- Statements by the definitions, worked out by hand: for a sheet with one agent, one plant and one contract each pair is a text and
 -- its answer. Assumes nothing.
+use Rattle.std.specs.Prelude.{Result, Ok, Err}
 use Prim.Native.Nat.{ℕ}
 use mathlib.Core.Path.{◌≡◌, refl}
 use mathlib.Core.List.{List, [], ◌∷◌, ◌++◌, map}
@@ -8,14 +9,13 @@ use Rattle.sums.specs.Sums.{first, stop}
 use Rattle.sums.specs.Lists.{list_to}
 use Rattle.hour.specs.Answer.{Lent, lent}
 use Rattle.sheet.specs.declared.Counts.{Counts}
-use Rattle.text.specs.Faults.{fault_number, earlier}
 use Rattle.text.specs.Fields.{all_digits, worth, parsed_as, parsed, owed_as, owed_in}
-use Rattle.text.specs.Lines.{cut, over, same, word_of, named, numbered, owing, step, read_line, line_fault}
+use Rattle.text.specs.Lines.{cut, over, word_of, named, numbered, owing, step, read_line, line_fault}
 use Rattle.text.specs.declared.Fault.{Fault}
 use Rattle.stating.specs.Rows.{asks, rows_for, rows_ahead, row_number, row_fault, statement_fault, with_mark, mark_row, mark_line}
 use Rattle.stating.specs.Rows.{unmarked, marked_in, last_fault, figures_line, money_line, second_line, price_line, price_in}
 use Rattle.stating.specs.Read.{lists_fit, statement_after, statement_of, stated_in}
-use Rattle.stating.specs.declared.Statement.{Statement}
+use Rattle.text.specs.declared.WrongLine.{WrongLine}
 
 abbrev counted : (agents plants contracts : ℕ) → Counts
 counted a p k = record { agents = a; boundaries = 2; plants = p; contracts = k }
@@ -85,6 +85,9 @@ texts =
     ∷ (a_price ++ a_plant ++ (112 ∷ 108 ∷ 97 ∷ 110 ∷ 116 ∷ 32 ∷ 48 ∷ 32 ∷ 120 ∷ 10 ∷ 112 ∷ 108 ∷ 97 ∷ 110 ∷ 116 ∷ 32 ∷ 48 ∷ 32 ∷ 56 ∷ []))
     ∷ []
 
+abbrev wrong : (line : ℕ) → Fault → Result ℕ WrongLine
+wrong n f = Err (record { line = n; fault = f })
+
 -- in order: in the paper's order; in another, with a comment, CR LF and an empty line; nothing; no price, which is told at the last
 -- line, the empty one behind the last LF; no plant; a word of sheets; the same with no number behind it; another word; too few
 -- numbers; no money; too many; a number behind the money; too few, in a row that the sheet has not; too many there; a sign before a
@@ -92,33 +95,33 @@ texts =
 -- the second contract of one; the second agent of one, though a plant has that place; a plant twice, the same both times; the price
 -- twice; twice, before a line with too few; a row again, with what is no number
 answers : map (statement_of (counted 1 1 1) before) texts
-    ≡ Statement.Price 5
-    ∷ Statement.Price 5
-    ∷ Statement.Wrong 1 Fault.Missing
-    ∷ Statement.Wrong 4 Fault.Missing
-    ∷ Statement.Wrong 4 Fault.Missing
-    ∷ Statement.Wrong 2 Fault.Word
-    ∷ Statement.Wrong 1 Fault.Word
-    ∷ Statement.Wrong 2 Fault.Word
-    ∷ Statement.Wrong 3 Fault.Few
-    ∷ Statement.Wrong 1 Fault.Few
-    ∷ Statement.Wrong 1 Fault.Many
-    ∷ Statement.Wrong 1 Fault.Many
-    ∷ Statement.Wrong 1 Fault.Few
-    ∷ Statement.Wrong 1 Fault.Many
-    ∷ Statement.Wrong 1 Fault.NotANumber
-    ∷ Statement.Wrong 1 Fault.NotANumber
-    ∷ Statement.Wrong 1 Fault.TooLarge
-    ∷ Statement.Wrong 1 Fault.TooLarge
-    ∷ Statement.Wrong 2 Fault.Rows
-    ∷ Statement.Wrong 2 Fault.Rows
-    ∷ Statement.Wrong 2 Fault.Rows
-    ∷ Statement.Wrong 3 Fault.Twice
-    ∷ Statement.Wrong 5 Fault.Twice
-    ∷ Statement.Wrong 3 Fault.Twice
-    ∷ Statement.Wrong 3 Fault.NotANumber
+    ≡ Ok 5
+    ∷ Ok 5
+    ∷ wrong 1 Fault.Missing
+    ∷ wrong 4 Fault.Missing
+    ∷ wrong 4 Fault.Missing
+    ∷ wrong 2 Fault.Word
+    ∷ wrong 1 Fault.Word
+    ∷ wrong 2 Fault.Word
+    ∷ wrong 3 Fault.Few
+    ∷ wrong 1 Fault.Few
+    ∷ wrong 1 Fault.Many
+    ∷ wrong 1 Fault.Many
+    ∷ wrong 1 Fault.Few
+    ∷ wrong 1 Fault.Many
+    ∷ wrong 1 Fault.NotANumber
+    ∷ wrong 1 Fault.NotANumber
+    ∷ wrong 1 Fault.TooLarge
+    ∷ wrong 1 Fault.TooLarge
+    ∷ wrong 2 Fault.Rows
+    ∷ wrong 2 Fault.Rows
+    ∷ wrong 2 Fault.Rows
+    ∷ wrong 3 Fault.Twice
+    ∷ wrong 5 Fault.Twice
+    ∷ wrong 3 Fault.Twice
+    ∷ wrong 3 Fault.NotANumber
     ∷ []
-unfolding first stop list_to fault_number earlier all_digits worth parsed_as parsed owed_as owed_in cut over same word_of named
+unfolding first stop list_to all_digits worth parsed_as parsed owed_as owed_in cut over word_of named
     numbered owing step read_line line_fault asks rows_for rows_ahead row_number row_fault statement_fault with_mark mark_row mark_line
     unmarked marked_in last_fault price_line price_in lists_fit statement_after statement_of
 answers = refl
@@ -128,7 +131,7 @@ abbrev after : Lent
 after = lent (1 ∷ 2 ∷ 3 ∷ 4 ∷ 5 ∷ 6 ∷ 96 ∷ []) (negsuc 6 ∷ []) (8 ∷ []) (9 ∷ [])
 
 numbers_read : stated_in ours before ∷ stated_in another before ∷ [] ≡ after ∷ after ∷ []
-unfolding fault_number all_digits worth parsed_as parsed owed_as owed_in cut over same word_of named numbered owing step read_line
+unfolding all_digits worth parsed_as parsed owed_as owed_in cut over word_of named numbered owing step read_line
     figures_line money_line second_line
 numbers_read = refl
 
@@ -139,8 +142,8 @@ first_of_all : statement_of (counted 2 1 1) before ours
     ∷ statement_of (counted 1 2 1) before (112 ∷ [])
     ∷ statement_of (counted 0 0 0) before (112 ∷ 114 ∷ 105 ∷ 99 ∷ 101 ∷ 32 ∷ 48 ∷ [])
     ∷ []
-    ≡ Statement.Wrong 0 Fault.Rows ∷ Statement.Wrong 0 Fault.Rows ∷ Statement.Wrong 0 Fault.Rows ∷ Statement.Price 0 ∷ []
-unfolding first stop list_to fault_number earlier all_digits worth parsed_as parsed owed_as owed_in cut over same word_of named
+    ≡ wrong 0 Fault.Rows ∷ wrong 0 Fault.Rows ∷ wrong 0 Fault.Rows ∷ Ok 0 ∷ []
+unfolding first stop list_to all_digits worth parsed_as parsed owed_as owed_in cut over word_of named
     numbered owing step read_line line_fault asks rows_for rows_ahead row_number row_fault statement_fault with_mark mark_row mark_line
     unmarked marked_in last_fault price_line price_in lists_fit statement_after statement_of
 first_of_all = refl

@@ -1,7 +1,8 @@
 -- Laws of the marks: a row that the sheet has, has a place among them; a line that is right is about such a row. Assumes nothing.
-use Prim.Native.Nat.{ℕ, ◌+◌, ◌≤◌, ◌<◌}
-use mathlib.Core.Path.{◌≡◌, refl, ◌∙◌}
-use mathlib.Core.Bool.{Bool, true, false, cond, not, true≢false}
+use Rattle.std.specs.Prelude.{Some, None, is_some}
+use Prim.Native.Nat.{ℕ, suc, ◌+◌, ◌≤◌, ◌<◌}
+use mathlib.Core.Path.{◌≡◌, refl, sym, ◌∙◌}
+use mathlib.Core.Bool.{Bool, true, false, cond, not, ◌||◌, true≢false}
 use mathlib.Core.List.{List, [], ◌∷◌}
 use native.Mathlib.Omega.{arith}
 use native.Mathlib.Decide.{dec_lt}
@@ -9,15 +10,14 @@ use borrow.Author.Tests.{ltb-true, leb-true, ne_eqb, lt-leb, le-leb}
 use lib.Dec.{eqb, ltb, leb}
 use lib.ListN.{length, take, replicate, length-replicate}
 use lib.Seq.{get_or-take, length-take-le}
-use Rattle.sums.specs.Sums.{first}
+use Rattle.std.specs.List.{list_any}
+use Rattle.sums.specs.Sums.{stop, first}
 use Rattle.sums.specs.Lists.{at, list_to}
-use Rattle.sums.proofs.First.{first_is, first_none}
 use Rattle.sums.proofs.Lists.{zeros_at, list_to_is}
 use Rattle.sums.proofs.Tests.{all_true}
 use Rattle.limits.specs.Limits.{most_agents, most_boundaries, most_plants, most_contracts}
 use Rattle.sheet.specs.Reading.{counts_good}
 use Rattle.sheet.specs.declared.Counts.{Counts}
-use Rattle.text.specs.Faults.{fault_number, found}
 use Rattle.text.specs.Lines.{read_line, line_fault}
 use Rattle.text.specs.declared.Fault.{Fault}
 use Rattle.text.specs.declared.Line.{Line}
@@ -39,18 +39,17 @@ place_within c l h = go (eqb l.word 1) (eqb l.word 3) (eqb l.word 4) (eqb l.word
     go false false false true n q = omega arith
     go false false false false n q = absurd (omega arith)
 
-rows_right : (t u : Bool) → found (cond t (cond u Fault.None Fault.Twice) Fault.Rows) ≡ false → t ≡ true
-unfolding fault_number
+rows_right : (t u : Bool) → is_some (cond t (cond u None (Some Fault.Twice)) (Some Fault.Rows)) ≡ false → t ≡ true
 rows_right true u e = refl
 rows_right false u e = absurd (true≢false e)
 
-pub right_row : (c : Counts) (marks : List ℕ) (l : Line) → found (statement_fault c marks l) ≡ false → (l.word ≡ 0 → ⊥)
+pub right_row : (c : Counts) (marks : List ℕ) (l : Line) → is_some (statement_fault c marks l) ≡ false → (l.word ≡ 0 → ⊥)
     → row_number l < rows_for c l.word
 unfolding statement_fault row_fault
 right_row c marks l e w =
     let own = line_fault (not (eqb l.word 2)) (asks l.word) l in
-    let r = later_right own (cond (eqb l.word 0) Fault.None (row_fault c marks l)) e in
-    let q : found (row_fault c marks l) ≡ false = rw (ne_eqb l.word 0 w) at r in
+    let r = later_right own (cond (eqb l.word 0) None (row_fault c marks l)) e in
+    let q : is_some (row_fault c marks l) ≡ false = rw (ne_eqb l.word 0 w) at r in
     ltb-true (row_number l) (rows_for c l.word)
     (rows_right (ltb (row_number l) (rows_for c l.word)) (eqb (at marks (row_place c l)) 0) q)
 
@@ -61,28 +60,25 @@ either P false j k p q = q
 
 pub line_once : (c : Counts) (j : Marked) (s : List ℕ) → (mark_line c j s).line ≤ j.line + 1
 unfolding mark_line mark_row
-line_once c j s = either (λ k. k.line ≤ j.line + 1) (found j.fault) j (mark_row c j (read_line s)) (omega arith) (omega arith)
+line_once c j s = either (λ k. k.line ≤ j.line + 1) (is_some j.fault) j (mark_row c j (read_line s)) (omega arith) (omega arith)
 
--- ---- every row has its mark
-pub not_complete : (marks : List ℕ) (i : ℕ) → i < length marks → at marks i ≡ 0 → ((k : ℕ) → k < i → eqb (at marks k) 0 ≡ false)
-    → complete marks ≡ false
-not_complete marks i h z b =
-    let t : ℕ → Bool = λ k. eqb (at marks k) 0 in
-    let e : first (length marks) t ≡ i = first_is (length marks) i t h (rw z refl) b in
-    rw e (lt-leb (length marks) i h)
-
-pub is_complete : (marks : List ℕ) → ((k : ℕ) → k < length marks → eqb (at marks k) 0 ≡ false) → complete marks ≡ true
-is_complete marks b =
-    rw (first_none (length marks) (λ (k : ℕ). eqb (at marks k) 0) b) (le-leb (length marks) (length marks) (omega arith))
-
--- one mark more was looked at
-pub one_more : (marks : List ℕ) (i : ℕ) → (at marks i ≡ 0 → ⊥) → ((k : ℕ) → k < i → eqb (at marks k) 0 ≡ false)
-    → (k : ℕ) → k < i + 1 → eqb (at marks k) 0 ≡ false
-one_more marks i z b k h = go (dec_lt k i)
+-- ---- every row has its mark: none of the marks is 0
+after_one : (n m : ℕ) → leb n m ≡ leb (suc n) (suc m)
+after_one n m = go (dec_lt m n)
   where
-    go : Dec (k < i) → eqb (at marks k) 0 ≡ false
-    go (yes l) = b k l
-    go (no l) = let e : k ≡ i = omega arith in rw e (ne_eqb (at marks i) 0 z)
+    go : Dec (m < n) → leb n m ≡ leb (suc n) (suc m)
+    go (yes l) = rw (lt-leb n m l, lt-leb (suc n) (suc m) (omega arith))
+    go (no l) = rw (le-leb n m (omega arith), le-leb (suc n) (suc m) (omega arith))
+
+pub none_zero : (marks : List ℕ) → not (list_any (λ y. eqb y 0) marks) ≡ complete marks
+unfolding first stop
+none_zero [] = refl
+none_zero (x ∷ xs) = go (eqb x 0) (none_zero xs)
+  where
+    go : (t : Bool) → not (list_any (λ y. eqb y 0) xs) ≡ complete xs
+        → not (t || list_any (λ y. eqb y 0) xs) ≡ leb (suc (length xs)) (stop t (first (length xs) (λ i. eqb (at xs i) 0)))
+    go true e = sym (lt-leb (suc (length xs)) 0 (omega arith))
+    go false e = e ∙ after_one (length xs) (first (length xs) (λ i. eqb (at xs i) 0))
 
 -- ---- the counts of a sheet
 pub record Limited (c : Counts) : Type 0 where

@@ -1,6 +1,7 @@
 -- What reading promises, from its parts; and that two outcomes which meet the promise are one. Assumes nothing.
+use Rattle.std.specs.Prelude.{Result, Ok, Err}
 use Prim.Native.Nat.{ℕ, ◌*◌}
-use mathlib.Core.Path.{◌≡◌, refl, ap, ap₂, sym, ◌∙◌}
+use mathlib.Core.Path.{◌≡◌, refl, ap, sym, ◌∙◌}
 use mathlib.Core.Bool.{true, false}
 use mathlib.Core.List.{List, [], ◌∷◌}
 use lib.Dec.{leb}
@@ -10,11 +11,12 @@ use Rattle.hour.specs.Lines.{cells_per_agent}
 use Rattle.hour.specs.Answer.{Lent}
 use Rattle.sheet.specs.Reading.{counts_good}
 use Rattle.sheet.specs.declared.Counts.{Counts}
-use Rattle.text.specs.Faults.{found}
+use Rattle.text.specs.Faults.{unless_wrong}
 use Rattle.text.specs.declared.Fault.{Fault}
+use Rattle.text.specs.declared.WrongLine.{WrongLine}
+use Rattle.text.proofs.Faults.{still_wrong, none_wrong}
 use Rattle.stating.specs.Rows.{marked_in, last_fault, price_in}
 use Rattle.stating.specs.Read.{lists_fit, statement_after, statement_of, stated_in, lists_after, StatementInto}
-use Rattle.stating.specs.declared.Statement.{Statement}
 
 -- lists that fit are those of a sheet's counts
 pub counts_good_lem : (c : Counts) (l : Lent) → lists_fit c l ≡ true → counts_good c ≡ true
@@ -27,29 +29,31 @@ counts_good_lem c l e =
 
 module _ (text : List ℕ) (c : Counts) (before : Lent) where
   -- the counts or the lists
-  pub not_fit : lists_fit c before ≡ false → StatementInto text c before (Statement.Wrong 0 Fault.Rows) before
+  pub not_fit : lists_fit c before ≡ false → StatementInto text c before (Err (record { line = 0; fault = Fault.Rows })) before
   unfolding statement_of lists_after
   not_fit e = record { answer = rw e; lists = refl }
 
   -- a line
-  pub wrong_line : (n : ℕ) (f : Fault) → lists_fit c before ≡ true → n ≡ (marked_in c text).line → f ≡ last_fault (marked_in c text)
-      → found f ≡ true → StatementInto text c before (Statement.Wrong n f) before
+  pub wrong_line : (w : WrongLine) → lists_fit c before ≡ true
+      → Err w ≡ unless_wrong {A = Unit {0}} (marked_in c text).line (last_fault (marked_in c text)) tt → StatementInto text c before (Err w) before
   unfolding statement_of statement_after lists_after
-  wrong_line n f e p q w =
-      let z : found (last_fault (marked_in c text)) ≡ true = ap found (sym q) ∙ w in
-      record { answer = rw (e, z) (ap₂ Statement.Wrong p q); lists = refl }
+  wrong_line w e q =
+      record {
+        answer = rw e (still_wrong (marked_in c text).line (last_fault (marked_in c text)) w (price_in text) q);
+        lists = refl;
+      }
 
   -- nothing
-  pub all_read : (after : Lent) (p : ℕ) (f : Fault) → lists_fit c before ≡ true → f ≡ last_fault (marked_in c text) → found f ≡ false
-      → p ≡ price_in text → after ≡ stated_in text before → StatementInto text c before (Statement.Price p) after
+  pub all_read : (after : Lent) (p : ℕ) → lists_fit c before ≡ true
+      → Ok tt ≡ unless_wrong {A = Unit {0}} (marked_in c text).line (last_fault (marked_in c text)) tt
+      → p ≡ price_in text → after ≡ stated_in text before → StatementInto text c before (Ok p) after
   unfolding statement_of statement_after lists_after
-  all_read after p f e q w x y =
-      let z : found (last_fault (marked_in c text)) ≡ false = ap found (sym q) ∙ w in
-      record { answer = rw (e, z) (ap Statement.Price x); lists = y }
+  all_read after p e q x y =
+      record { answer = rw (e, none_wrong (marked_in c text).line (last_fault (marked_in c text)) q) (ap Ok x); lists = y }
 
 -- Two outcomes that meet the promise of reading are one.
-pub one_outcome : (text : List ℕ) (c : Counts) (before after after' : Lent) (r r' : Statement) → StatementInto text c before r after
+pub one_outcome : (text : List ℕ) (c : Counts) (before after after' : Lent) (r r' : Result ℕ WrongLine) → StatementInto text c before r after
     → StatementInto text c before r' after' → (r ≡ r') × (after ≡ after')
 one_outcome text c before after after' r r' x y =
     let e : r ≡ r' = x.answer ∙ sym y.answer in
-    (e, x.lists ∙ ap (λ (q : Statement). lists_after q text before) e ∙ sym y.lists)
+    (e, x.lists ∙ ap (λ (q : Result ℕ WrongLine). lists_after q text before) e ∙ sym y.lists)

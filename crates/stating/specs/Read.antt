@@ -1,14 +1,15 @@
 -- What reading the text of a statement into four lent lists promises. Assumes nothing.
+use Rattle.std.specs.Prelude.{Result, Ok, Err}
 use Rattle.std.specs.Prelude.{ℕ, ◌*◌, ◌≡◌, Bool, cond, ◌&&◌, List, length, leb}
 use Rattle.sheet.specs.Reading.{counts_good}
 use Rattle.sheet.specs.declared.Counts.{Counts}
 use Rattle.hour.specs.Lines.{cells_per_agent}
 use Rattle.hour.specs.Answer.{Lent}
-use Rattle.text.specs.Faults.{found}
 use Rattle.text.specs.Lines.{lines, over}
+use Rattle.text.specs.Faults.{unless_wrong}
 use Rattle.text.specs.declared.Fault.{Fault}
+use Rattle.text.specs.declared.WrongLine.{WrongLine}
 use Rattle.stating.specs.Rows.{Marked, marked_in, last_fault, figures_line, money_line, second_line, price_in}
-use Rattle.stating.specs.declared.Statement.{Statement}
 
 -- the counts are within a sheet's limits, and the lists have a cell for each number of the statement
 unfoldable pub lists_fit : Counts → Lent → Bool
@@ -17,12 +18,13 @@ lists_fit c l =
     && leb c.plants (length l.schedule) && leb c.contracts (length l.amounts)
 
 -- the price where all is read, or the line that is wrong and how
-unfoldable pub statement_after : Marked → List ℕ → Statement
-statement_after j text = cond (found (last_fault j)) (Statement.Wrong j.line (last_fault j)) (Statement.Price (price_in text))
+unfoldable pub statement_after : Marked → List ℕ → Result ℕ WrongLine
+statement_after j text = unless_wrong j.line (last_fault j) (price_in text)
 
 -- before any line: the counts and the lists
-unfoldable pub statement_of : Counts → Lent → List ℕ → Statement
-statement_of c before text = cond (lists_fit c before) (statement_after (marked_in c text) text) (Statement.Wrong 0 Fault.Rows)
+unfoldable pub statement_of : Counts → Lent → List ℕ → Result ℕ WrongLine
+statement_of c before text =
+    cond (lists_fit c before) (statement_after (marked_in c text) text) (Err (record { line = 0; fault = Fault.Rows }))
 
 -- the four lists with the numbers of the text
 abbrev pub stated_in : List ℕ → Lent → Lent
@@ -35,10 +37,10 @@ stated_in text l =
     }
 
 -- where the answer is a price; else as they were
-unfoldable pub lists_after : Statement → List ℕ → Lent → Lent
-lists_after (Statement.Price p) text l = stated_in text l
-lists_after (Statement.Wrong n f) text l = l
+unfoldable pub lists_after : Result ℕ WrongLine → List ℕ → Lent → Lent
+lists_after (Ok p) text l = stated_in text l
+lists_after (Err w) text l = l
 
-pub record StatementInto (text : List ℕ) (c : Counts) (before : Lent) (r : Statement) (after : Lent) : Type 0 where
+pub record StatementInto (text : List ℕ) (c : Counts) (before : Lent) (r : Result ℕ WrongLine) (after : Lent) : Type 0 where
   pub answer : r ≡ statement_of c before text
   pub lists : after ≡ lists_after r text before

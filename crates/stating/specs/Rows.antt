@@ -1,13 +1,14 @@
 -- An administrator's statement of an hour as text: `price P`, `agent N SHARE OWN IMPORT CONTRACTED BOUGHT SOLD MONEY`,
 -- `plant N SCHEDULE`, `contract N AMOUNT`, where N is the number of a row of the sheet, counted from 0 in its section. Each row of the
 -- sheet has one line, and so has the price, in any order. Assumes nothing.
+use Rattle.std.specs.Prelude.{Option, Some, None, is_some}
+use Rattle.std.specs.Option.{option_or}
 use Rattle.std.specs.Prelude.{ℕ, ◌+◌, ◌*◌, Bool, not, cond, ◌||◌, List, ℤ, length, drop, set, leb, ltb, eqb}
 use Rattle.std.proofs.lemmas.List.Edits.{sets}
 use Rattle.sums.specs.Sums.{first}
 use Rattle.sums.specs.Lists.{at, list_to}
 use Rattle.hour.specs.Lines.{cells_per_agent}
 use Rattle.sheet.specs.declared.Counts.{Counts}
-use Rattle.text.specs.Faults.{found, earlier}
 use Rattle.text.specs.Lines.{lines, over, read_line, line_fault}
 use Rattle.text.specs.declared.Fault.{Fault}
 use Rattle.text.specs.declared.Line.{Line}
@@ -40,24 +41,24 @@ row_place c l = rows_ahead c l.word + row_number l
 -- ---- the lines one after the other: how many were read, what is wrong with the last of them, and a mark for each row that had its line
 pub record Marked : Type 0 where
   pub line : ℕ
-  pub fault : Fault
+  pub fault : Option Fault
   pub marks : List ℕ
 
 -- a line about a row that the sheet has not, or that had its line already
-unfoldable pub row_fault : Counts → (marks : List ℕ) → Line → Fault
+unfoldable pub row_fault : Counts → (marks : List ℕ) → Line → Option Fault
 row_fault c marks l =
-    cond (ltb (row_number l) (rows_for c l.word)) (cond (eqb (at marks (row_place c l)) 0) Fault.None Fault.Twice)
-    Fault.Rows
+    cond (ltb (row_number l) (rows_for c l.word)) (cond (eqb (at marks (row_place c l)) 0) None (Some Fault.Twice))
+    (Some Fault.Rows)
 
 -- a line by itself, then its row; a line without a word is about none
-unfoldable pub statement_fault : Counts → (marks : List ℕ) → Line → Fault
+unfoldable pub statement_fault : Counts → (marks : List ℕ) → Line → Option Fault
 statement_fault c marks l =
-    earlier (line_fault (not (eqb l.word 2)) (asks l.word) l)
-    (cond (eqb l.word 0) Fault.None (row_fault c marks l))
+    option_or (line_fault (not (eqb l.word 2)) (asks l.word) l)
+    (cond (eqb l.word 0) None (row_fault c marks l))
 
 unfoldable pub with_mark : Counts → (marks : List ℕ) → Line → List ℕ
 with_mark c marks l =
-    cond (found (statement_fault c marks l) || eqb l.word 0) marks (set marks (row_place c l) 1)
+    cond (is_some (statement_fault c marks l) || eqb l.word 0) marks (set marks (row_place c l) 1)
 
 unfoldable pub mark_row : Counts → Marked → Line → Marked
 mark_row c j l =
@@ -65,10 +66,10 @@ mark_row c j l =
 
 -- the first line that is wrong ends it
 unfoldable pub mark_line : Counts → Marked → List ℕ → Marked
-mark_line c j bytes = cond (found j.fault) j (mark_row c j (read_line bytes))
+mark_line c j bytes = cond (is_some j.fault) j (mark_row c j (read_line bytes))
 
 unfoldable pub unmarked : Counts → Marked
-unmarked c = record { line = 0; fault = Fault.None; marks = list_to (λ i. 0) (all_rows c) }
+unmarked c = record { line = 0; fault = None; marks = list_to (λ i. 0) (all_rows c) }
 
 unfoldable pub marked_in : Counts → List ℕ → Marked
 marked_in c text = over (mark_line c) (unmarked c) (lines text)
@@ -77,8 +78,8 @@ marked_in c text = over (mark_line c) (unmarked c) (lines text)
 abbrev pub complete : List ℕ → Bool
 complete marks = leb (length marks) (first (length marks) (λ i. eqb (at marks i) 0))
 
-unfoldable pub last_fault : Marked → Fault
-last_fault j = earlier j.fault (cond (complete j.marks) Fault.None Fault.Missing)
+unfoldable pub last_fault : Marked → Option Fault
+last_fault j = option_or j.fault (cond (complete j.marks) None (Some Fault.Missing))
 
 -- ---- the numbers: each line puts its own at the place of its row
 abbrev pub figures_from : Line → List ℕ → List ℕ

@@ -9,41 +9,32 @@ ghost use Rattle.stating.specs.Read.{stated_in};
 ghost use Rattle.hour.specs.Answer.{lent};
 ghost use Rattle.stating.specs.Steps.{with_line};
 
+use super::PRICE;
+use limits::{Agent, Contract, Plant};
 use text::Line;
 
-fn put(out: &mut [u32], k: usize, v: u32)
+fn put<T: Copy>(out: &mut [T], k: usize, v: T)
     ensures { out.new ≡ set out.old k v }
 {
-    if out.len() <= k {
-        return;
+    if k < out.len() {
+        out[k] = v;
     }
-    out[k] = v;
-}
-
-fn put_owed(out: &mut [i64], k: usize, v: i64)
-    ensures { out.new ≡ set out.old k v }
-{
-    if out.len() <= k {
-        return;
-    }
-    out[k] = v;
 }
 
 // The six numbers behind an agent's.
 fn put_six(out: &mut [u32], l: Line)
     ensures { out.new ≡ sets out.old (cells_per_agent * at l.numbers 0) (drop 1 l.numbers) }
 {
-    let a = l.numbers;
-    let k = 6 * super::index(a[0]);
-    for i in 0..6 {
-        put(out, k + i, a[i + 1]);
+    let k = Agent::CELLS * l.numbers[0] as usize;
+    for (i, &n) in l.numbers[1..].iter().enumerate() {
+        put(out, k + i, n);
     }
 }
 
 fn put_figures(out: &mut [u32], l: Line)
     ensures { out.new ≡ figures_from l out.old }
 {
-    if l.word == 1 {
+    if l.word == Agent::SECTION {
         put_six(out, l);
     }
 }
@@ -51,29 +42,27 @@ fn put_figures(out: &mut [u32], l: Line)
 fn put_money(out: &mut [i64], l: Line)
     ensures { out.new ≡ money_from l out.old }
 {
-    let a = l.numbers;
-    if l.word == 1 {
-        put_owed(out, a[0] as usize, l.money);
+    if l.word == Agent::SECTION {
+        put(out, l.numbers[0] as usize, l.money);
     }
 }
 
 fn put_second(out: &mut [u32], l: Line, word: u32)
     ensures { out.new ≡ second_from word l out.old }
 {
-    let a = l.numbers;
     if l.word == word {
-        put(out, a[0] as usize, a[1]);
+        put(out, l.numbers[0] as usize, l.numbers[1]);
     }
 }
 
+// The price that a line has, or else the one so far.
 fn price_or(l: Line, price: u32) -> u32
     ensures { result ≡ cond (eqb l.word 5) (at l.numbers 0) price }
 {
-    let a = l.numbers;
-    if l.word == 5 { a[0] } else { price }
+    if l.word == PRICE { l.numbers[0] } else { price }
 }
 
-// A line's numbers; the price that it has, or else the one so far.
+// A line's numbers.
 fn put_line(
     l: Line,
     figures: &mut [u32],
@@ -86,8 +75,8 @@ fn put_line(
 {
     put_figures(figures, l);
     put_money(money, l);
-    put_second(schedule, l, 3);
-    put_second(amounts, l, 4);
+    put_second(schedule, l, Plant::SECTION);
+    put_second(amounts, l, Contract::SECTION);
 }
 
 pub(crate) fn fill(
@@ -102,13 +91,10 @@ pub(crate) fn fill(
         × (result ≡ price_in s.now) }
 {
     let mut price: u32 = 0;
-    let mut i: usize = 0;
-    while i <= s.len() {
-        let e = text::line_end(s, i);
-        let l = text::read_line(&s[i..e]);
+    for line in s.split(|b| *b == b'\n') {
+        let l = text::read_line(line);
         price = price_or(l, price);
         put_line(l, figures, money, schedule, amounts);
-        i = e + 1;
     }
     price
 }

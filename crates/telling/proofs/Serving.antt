@@ -1,4 +1,6 @@
 -- What lists that serve are, and the ends of writing a statement. Assumes nothing.
+use Rattle.std.specs.Prelude.{Result, Err}
+use Rattle.refusals.specs.declared.Refusal.{Refusal}
 use Prim.Native.Nat.{ℕ, ◌*◌}
 use mathlib.Core.Path.{◌≡◌, refl, subst}
 use mathlib.Core.Bool.{true, false, ◌&&◌}
@@ -16,7 +18,6 @@ use Rattle.sheet.specs.declared.Counts.{Counts}
 use Rattle.hour.specs.Lines.{cells_per_agent}
 use Rattle.hour.specs.Answer.{Lent}
 use Rattle.printing.specs.Page.{Prints}
-use Rattle.printing.specs.declared.Printed.{Printed}
 use Rattle.telling.specs.Text.{lists_serve, statement_verdict}
 use Rattle.telling.specs.Enough.{Enough}
 
@@ -58,7 +59,7 @@ module _ (c : Counts) (f m s t : ℕ) where
 module _ (c : Counts) (l : Lent) where
   pub badly_served : lists_serve c (length l.figures) (length l.money) (length l.schedule) (length l.amounts) ≡ false
       → (text before : List ℕ)
-      → Prints (statement_verdict c l (length text) (length before)) text before (Printed.Refused (refusal bad_layout 0)) before
+      → Prints (statement_verdict c l (length text) (length before)) text before (Err (refusal bad_layout 0)) before
   unfolding statement_verdict
   badly_served e text before = rw e (record { answer = refl; bytes = filled_none 0 before (at text) })
 
@@ -70,7 +71,7 @@ module _ (c : Counts) (l : Lent) where
 
   -- the text by another name, where the lists serve
   pub given : lists_serve c (length l.figures) (length l.money) (length l.schedule) (length l.amounts) ≡ true
-      → (put text before : List ℕ) (r : Printed) (after : List ℕ) → put ≡ text
+      → (put text before : List ℕ) (r : Result ℕ Refusal) (after : List ℕ) → put ≡ text
       → Prints (refused_unless (leb (length put) (length before)) no_room 0) put before r after
       → Prints (statement_verdict c l (length text) (length before)) text before r after
   given e put text before r after same h =

@@ -1,4 +1,5 @@
 -- Our statement from what settling leaves in lists with room for every sheet. Assumes nothing.
+use Rattle.std.specs.Prelude.{Result, Ok, Err}
 use Prim.Native.Nat.{ℕ, ◌*◌}
 use mathlib.Core.Path.{◌≡◌, refl, ap, sym, subst, ◌∙◌}
 use mathlib.Core.List.{List}
@@ -12,12 +13,11 @@ use Rattle.sums.proofs.Lists.{get_d_list_to}
 use Rattle.sums.proofs.Fill.{filled_none}
 use Rattle.refusals.specs.Refusals.{refusal, no_room, refused_unless}
 use Rattle.refusals.specs.declared.Refusal.{Refusal}
-use Rattle.refusals.specs.declared.Verdict.{Verdict}
+use Rattle.refusals.specs.Refusals.{Verdict}
 use Rattle.refusals.proofs.Fine.{else_fine}
 use Rattle.limits.specs.Limits.{most_agents, most_plants, most_contracts}
 use Rattle.sheet.specs.Reading.{read_verdict, read_of, reading, counts_of}
 use Rattle.sheet.specs.declared.Counts.{Counts}
-use Rattle.sheet.specs.declared.Reading.{Reading}
 use Rattle.sheet.proofs.Accepted.{accepted_few, accepted_counts}
 use Rattle.hour.specs.Sheet.{agents, plants, contracts}
 use Rattle.hour.specs.Lines.{figure, money, scheduled, amount}
@@ -27,7 +27,6 @@ use Rattle.columns.specs.Columns.{hour_of, sheet_verdict}
 use Rattle.columns.proofs.Columns.{agents_long, plants_long, contracts_long}
 use Rattle.settle.specs.Settled.{verdict_of, Settled}
 use Rattle.printing.specs.Page.{Prints}
-use Rattle.printing.specs.declared.Printed.{Printed}
 use Rattle.printing.proofs.Printing.{one_outcome as printed-once}
 use Rattle.columns.proofs.Refusing.{Told, told_all, room_enough, room_for}
 use Rattle.telling.specs.Text.{statement_text, statement_verdict}
@@ -37,60 +36,60 @@ use Rattle.telling.proofs.Serving.{serve, served_verdict}
 use Rattle.telling.proofs.Same.{Agree, statement_same}
 
 -- a refusal of settling is told, and nothing is written
-pub told_refusal : (bytes before : List ℕ) (q : Refusal) → sheet_verdict bytes ≡ Verdict.Refused q
-    → Prints (tell_verdict bytes (length before)) (own_statement bytes) before (Printed.Refused q) before
+pub told_refusal : (bytes before : List ℕ) (q : Refusal) → sheet_verdict bytes ≡ Err q
+    → Prints (tell_verdict bytes (length before)) (own_statement bytes) before (Err q) before
 unfolding tell_verdict
 told_refusal bytes before q e = rw e (record { answer = refl; bytes = filled_none 0 before (at (own_statement bytes)) })
 
 -- reading's is settling's
-pub read_refusal : (bytes : List ℕ) (q : Refusal) → read_of bytes ≡ Reading.Refused q → sheet_verdict bytes ≡ Verdict.Refused q
+pub read_refusal : (bytes : List ℕ) (q : Refusal) → read_of bytes ≡ Err q → sheet_verdict bytes ≡ Err q
 unfolding read_of sheet_verdict
 read_refusal bytes q e = go (read_verdict bytes) refl e
   where
-    go : (v : Verdict) → read_verdict bytes ≡ v → reading v (counts_of bytes) ≡ Reading.Refused q → sheet_verdict bytes ≡ Verdict.Refused q
-    go Verdict.Fine f h = let no : ◌≡◌ {A = ℕ} 0 1 = cc in absurd (omega arith)
-    go (Verdict.Refused r) f h = let s : r ≡ q = cc in rw (f, s)
+    go : (v : Verdict) → read_verdict bytes ≡ v → reading v (counts_of bytes) ≡ Err q → sheet_verdict bytes ≡ Err q
+    go (Ok tt) f h = let no : ◌≡◌ {A = ℕ} 0 1 = cc in absurd (omega arith)
+    go (Err r) f h = let s : r ≡ q = cc in rw (f, s)
 
 -- a settled hour is refused only for want of room
-pub fine_verdict : (bytes : List ℕ) (room : ℕ) → sheet_verdict bytes ≡ Verdict.Fine
+pub fine_verdict : (bytes : List ℕ) (room : ℕ) → sheet_verdict bytes ≡ Ok tt
     → tell_verdict bytes room ≡ refused_unless (leb (length (own_statement bytes)) room) no_room 0
 unfolding tell_verdict
 fine_verdict bytes room e = rw e (else_fine (refused_unless (leb (length (own_statement bytes)) room) no_room 0))
 
 -- what settling answers into lists with room
-module _ (bytes : List ℕ) (s : Summary) (before after : Lent) (room : room_verdict (hour_of bytes) before ≡ Verdict.Fine)
+module _ (bytes : List ℕ) (s : Summary) (before after : Lent) (room : room_verdict (hour_of bytes) before ≡ Ok tt)
     (done : Settled bytes before after s) where
   answered_by : (v : Verdict) → sheet_verdict bytes ≡ v → s ≡ summary_of v (hour_of bytes)
   unfolding verdict_of
   answered_by v e = done.answered ∙ ap (λ (w : Verdict). summary_of w (hour_of bytes)) (room_enough bytes before room ∙ e)
 
-  pub settled_fine : s.number ≡ 0 → sheet_verdict bytes ≡ Verdict.Fine
+  pub settled_fine : s.number ≡ 0 → sheet_verdict bytes ≡ Ok tt
   unfolding Told
   settled_fine z = go (sheet_verdict bytes) refl
     where
-      go : (v : Verdict) → sheet_verdict bytes ≡ v → sheet_verdict bytes ≡ Verdict.Fine
-      go Verdict.Fine e = e
-      go (Verdict.Refused q) e =
-          let n : s.number ≡ q.number = ap (λ (x : Summary). x.number) (answered_by (Verdict.Refused q) e) in
+      go : (v : Verdict) → sheet_verdict bytes ≡ v → sheet_verdict bytes ≡ Ok tt
+      go (Ok tt) e = e
+      go (Err q) e =
+          let n : s.number ≡ q.number = ap (λ (x : Summary). x.number) (answered_by (Err q) e) in
           absurd (told_all bytes q e (sym n ∙ z))
 
-  pub turned_away_lem : (s.number ≡ 0 → ⊥) → sheet_verdict bytes ≡ Verdict.Refused (refusal s.number s.place)
+  pub turned_away_lem : (s.number ≡ 0 → ⊥) → sheet_verdict bytes ≡ Err (refusal s.number s.place)
   turned_away_lem h = go (sheet_verdict bytes) refl
     where
-      go : (v : Verdict) → sheet_verdict bytes ≡ v → sheet_verdict bytes ≡ Verdict.Refused (refusal s.number s.place)
-      go Verdict.Fine e =
-          absurd (h (ap (λ (x : Summary). x.number) (answered_by Verdict.Fine e)))
-      go (Verdict.Refused q) e =
-          e ∙ ap (λ (x : Summary). Verdict.Refused (refusal x.number x.place)) (sym (answered_by (Verdict.Refused q) e))
+      go : (v : Verdict) → sheet_verdict bytes ≡ v → sheet_verdict bytes ≡ Err (refusal s.number s.place)
+      go (Ok tt) e =
+          absurd (h (ap (λ (x : Summary). x.number) (answered_by (Ok tt) e)))
+      go (Err q) e =
+          e ∙ ap (λ (x : Summary). Err (refusal x.number x.place)) (sym (answered_by (Err q) e))
 
   -- the text of the lists as they are left is our statement
-  module _ (fine : sheet_verdict bytes ≡ Verdict.Fine) where
+  module _ (fine : sheet_verdict bytes ≡ Ok tt) where
     agree : Agree (counts_of bytes) after (own_lists (hour_of bytes))
     unfolding hour_of verdict_of
     agree =
         let c = counts_of bytes in
         let h = hour_of bytes in
-        let v : verdict_of bytes before ≡ Verdict.Fine = room_enough bytes before room ∙ fine in
+        let v : verdict_of bytes before ≡ (Ok tt) = room_enough bytes before room ∙ fine in
         let n = agents_long bytes c in
         let p = plants_long bytes c in
         let k = contracts_long bytes c in
@@ -112,7 +111,7 @@ module _ (bytes : List ℕ) (s : Summary) (before after : Lent) (room : room_ver
     pub own_text : statement_text (counts_of bytes) s.price after ≡ own_statement bytes
     unfolding own_statement
     own_text =
-        ap (λ (x : Summary). statement_text (counts_of bytes) x.price after) (answered_by Verdict.Fine fine)
+        ap (λ (x : Summary). statement_text (counts_of bytes) x.price after) (answered_by (Ok tt) fine)
         ∙ statement_same (counts_of bytes) after (own_lists (hour_of bytes)) agree _
 
 -- ---- lists for every row that a sheet may have
@@ -120,8 +119,8 @@ abbrev pub fresh : Lent
 fresh =
     lent (replicate (6 * most_agents) 0) (replicate most_agents (pos 0)) (replicate most_plants 0) (replicate most_contracts 0)
 
-module _ (bytes : List ℕ) (c : Counts) (e : read_of bytes ≡ Reading.Accepted c) where
-  pub fresh_room : room_verdict (hour_of bytes) fresh ≡ Verdict.Fine
+module _ (bytes : List ℕ) (c : Counts) (e : read_of bytes ≡ Ok c) where
+  pub fresh_room : room_verdict (hour_of bytes) fresh ≡ Ok tt
   fresh_room =
       room_for bytes c e fresh (le_refl (6 * most_agents)) (le_refl most_agents)
       (le_refl most_plants) (le_refl most_contracts)
@@ -145,7 +144,7 @@ module _ (bytes : List ℕ) (c : Counts) (e : read_of bytes ≡ Reading.Accepted
         }
 
     -- what writing them promises is what telling does
-    pub told_statement : s.number ≡ 0 → (old : List ℕ) (r : Printed) (new : List ℕ)
+    pub told_statement : s.number ≡ 0 → (old : List ℕ) (r : Result ℕ Refusal) (new : List ℕ)
         → Prints (statement_verdict c after (length (statement_text c s.price after)) (length old))
         (statement_text c s.price after) old r new
         → Prints (tell_verdict bytes (length old)) (own_statement bytes) old r new
@@ -161,7 +160,7 @@ module _ (bytes : List ℕ) (c : Counts) (e : read_of bytes ≡ Reading.Accepted
         (subst (λ (t : List ℕ). Prints (refused_unless (leb (length t) (length old)) no_room 0) t old r new) same g)
 
 -- any two outcomes that meet the promise of `tell` are equal
-pub one_outcome : (bytes before after after' : List ℕ) (r r' : Printed)
+pub one_outcome : (bytes before after after' : List ℕ) (r r' : Result ℕ Refusal)
     → Prints (tell_verdict bytes (length before)) (own_statement bytes) before r after
     → Prints (tell_verdict bytes (length before)) (own_statement bytes) before r' after' → (r ≡ r') × (after ≡ after')
 one_outcome bytes before after after' r r' p q = printed-once p q

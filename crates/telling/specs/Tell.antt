@@ -2,7 +2,7 @@
 use Rattle.std.specs.Prelude.{ℕ, ◌*◌, List, [], ◌∷◌, length, leb}
 use Rattle.sums.specs.Lists.{list_to}
 use Rattle.refusals.specs.Refusals.{no_room, refused_unless, first_of}
-use Rattle.refusals.specs.declared.Verdict.{Verdict}
+use Rattle.refusals.specs.Refusals.{Verdict}
 use Rattle.sheet.specs.Reading.{counts_of}
 use Rattle.columns.specs.Columns.{hour_of, sheet_verdict}
 use Rattle.hour.specs.Sheet.{Sheet, agents, plants, contracts}

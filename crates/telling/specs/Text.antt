@@ -1,15 +1,16 @@
 -- A statement of an hour as text: `price P`, then `agent N SHARE OWN IMPORT CONTRACTED BOUGHT SOLD MONEY`, `plant N SCHEDULE` and
 -- `contract N AMOUNT`, a line a row of the sheet, each numbered from 0 in the sheet's order. Assumes nothing.
+use Rattle.std.specs.Prelude.{Result}
+use Rattle.refusals.specs.declared.Refusal.{Refusal}
 use Rattle.std.specs.Prelude.{ℕ, ◌*◌, Bool, ◌&&◌, List, [], ◌∷◌, ◌++◌, length, leb}
 use Rattle.refusals.specs.Refusals.{bad_layout, no_room, refused_unless, first_of}
-use Rattle.refusals.specs.declared.Verdict.{Verdict}
+use Rattle.refusals.specs.Refusals.{Verdict}
 use Rattle.limits.specs.Limits.{most_agents, most_plants, most_contracts}
 use Rattle.sheet.specs.declared.Counts.{Counts}
 use Rattle.hour.specs.Lines.{cells_per_agent}
 use Rattle.hour.specs.Answer.{Lent, share_in, own_in, import_in, contracted_in, bought_in, sold_in, money_in, schedule_in, amount_in}
 use Rattle.printing.specs.Text.{signed, lines_to}
 use Rattle.printing.specs.Page.{Prints}
-use Rattle.printing.specs.declared.Printed.{Printed}
 use Rattle.text.specs.Lines.{agent_word, plant_word, contract_word, price_word}
 use Rattle.text.specs.Written.{joined, row_text}
 
@@ -49,6 +50,6 @@ statement_verdict c l size room =
     ∷ [])
 
 -- the promise of writing it, into a buffer that holds `before`
-abbrev pub StatementWritten : Counts → (price : ℕ) → Lent → (before : List ℕ) → Printed → (after : List ℕ) → Type 0
+abbrev pub StatementWritten : Counts → (price : ℕ) → Lent → (before : List ℕ) → Result ℕ Refusal → (after : List ℕ) → Type 0
 StatementWritten c price l before r after =
     Prints (statement_verdict c l (length (statement_text c price l)) (length before)) (statement_text c price l) before r after

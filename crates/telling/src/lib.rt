@@ -6,7 +6,6 @@ mod putting;
 
 ghost use Rattle.std.specs.Prelude.{◌≡◌, ◌≤◌, length, drop};
 ghost use Rattle.sheet.specs.Reading.{read_of};
-ghost use Rattle.sheet.specs.declared.Reading.{Reading as Reading·answer};
 ghost use Rattle.hour.specs.Answer.{lent};
 ghost use Rattle.printing.specs.Page.{Prints};
 ghost use Rattle.telling.specs.Text.{lists_serve, statement_text, StatementWritten};
@@ -14,25 +13,26 @@ ghost use Rattle.telling.specs.Tell.{own_statement, tell_verdict};
 ghost use Rattle.telling.specs.Enough.{Enough};
 
 use limits::{Agent, Contract, Plant};
-use printing::{Printed, pen};
+use printing::pen;
 use refusals::Refusal;
-use sheet::{Counts, Reading};
+use sheet::Counts;
 use text::puts;
 
 // The longest statement: 175 bytes an agent, 51 a plant or a contract, 27 for the price.
 const LONGEST: usize = 175 * Agent::MOST + 51 * (Plant::MOST + Contract::MOST) + 27;
 
 // Counts within their limits, and lists as long as they ask for.
+#[tactic(auto, unfolding(crate::specs::Text::lists_serve))]
 fn lists_serve(c: Counts, figures: usize, money: usize, schedule: usize, amounts: usize) -> bool
     ensures { result ≡ lists_serve c figures money schedule amounts }
 {
-    if (c.agents <= Agent::MOST) & (c.plants <= Plant::MOST) & (c.contracts <= Contract::MOST) {
-        return (Agent::CELLS * c.agents <= figures)
-            & (c.agents <= money)
-            & (c.plants <= schedule)
-            & (c.contracts <= amounts);
-    }
-    false
+    c.agents <= Agent::MOST
+        && c.plants <= Plant::MOST
+        && c.contracts <= Contract::MOST
+        && Agent::CELLS * c.agents <= figures
+        && c.agents <= money
+        && c.plants <= schedule
+        && c.contracts <= amounts
 }
 
 // The statement at the end of a scratch.
@@ -65,13 +65,13 @@ pub fn write(
     schedule: &[u32],
     amounts: &[u32],
     out: &mut [u8],
-) -> Printed
+) -> Result<usize, Refusal>
     ensures { StatementWritten c price
         (lent figures.now money.now schedule.now amounts.now)
         out.old result out.new }
 {
     if !lists_serve(c, figures.len(), money.len(), schedule.len(), amounts.len()) {
-        return Printed::Refused(Refusal {
+        return Err(Refusal {
             number: Refusal::LAYOUT,
             place: 0,
         });
@@ -82,8 +82,8 @@ pub fn write(
 }
 
 // Our statement of an accepted sheet.
-fn tell_accepted(sheet: &[u8], c: Counts, out: &mut [u8]) -> Printed
-    requires { read_of sheet.now ≡ Reading·answer.Accepted c }
+fn tell_accepted(sheet: &[u8], c: Counts, out: &mut [u8]) -> Result<usize, Refusal>
+    requires { read_of sheet.now ≡ Ok c }
     ensures { Prints (tell_verdict sheet.now (length out.old)) (own_statement sheet.now)
         out.old result out.new }
 {
@@ -100,7 +100,7 @@ fn tell_accepted(sheet: &[u8], c: Counts, out: &mut [u8]) -> Printed
         &mut amounts,
     );
     if r.number != 0 {
-        return Printed::Refused(Refusal {
+        return Err(Refusal {
             number: r.number,
             place: r.place,
         });
@@ -109,12 +109,10 @@ fn tell_accepted(sheet: &[u8], c: Counts, out: &mut [u8]) -> Printed
 }
 
 // Our statement of the hour of any bytes, put into a lent buffer: settling's refusals, and 11 for want of room.
-pub fn tell(sheet: &[u8], out: &mut [u8]) -> Printed
+pub fn tell(sheet: &[u8], out: &mut [u8]) -> Result<usize, Refusal>
     ensures { Prints (tell_verdict sheet.now (length out.old)) (own_statement sheet.now)
         out.old result out.new }
 {
-    match sheet::read(sheet) {
-        Reading::Accepted(c) => tell_accepted(sheet, c, out),
-        Reading::Refused(why) => Printed::Refused(why),
-    }
+    let c = sheet::read(sheet)?;
+    tell_accepted(sheet, c, out)
 }

@@ -41,10 +41,8 @@ pub(crate) fn put_agents(s: &mut [u8], at: usize, figures: &[u32], money: &[i64]
         s.old s.new at (175 * n) result }
 {
     let mut i = at;
-    let mut left = n;
-    while left > 0 {
-        left -= 1;
-        i = put_agent(s, i, figures, money, left);
+    for a in (0..n).rev() {
+        i = put_agent(s, i, figures, money, a);
     }
     i
 }
@@ -57,10 +55,8 @@ pub(crate) fn put_list(s: &mut [u8], at: usize, word: &[u8], list: &[u32], n: us
         s.old s.new at (51 * n) result }
 {
     let mut i = at;
-    let mut left = n;
-    while left > 0 {
-        left -= 1;
-        i = puts::put_row(s, i, word, &[left as u32, list[left]]);
+    for row in (0..n).rev() {
+        i = puts::put_row(s, i, word, &[row as u32, list[row]]);
     }
     i
 }

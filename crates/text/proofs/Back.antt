@@ -1,5 +1,6 @@
 -- Reading what was written. The digits of a number are worth the number; no digit is a separator or a line end, so that a row is
 -- one line, and its fields are its word and its numbers. Assumes nothing.
+use Rattle.std.specs.Prelude.{Option, Ok, None}
 use Prim.Native.Nat.{ℕ, zero, suc, ◌+◌, ◌-◌, ◌*◌, ◌/◌, ◌%◌, ◌^◌, ◌<◌, ◌≤◌}
 use mathlib.Core.Path.{◌≡◌, refl, ap, ap₂, sym, ◌∙◌}
 use mathlib.Core.Bool.{Bool, true, false, cond}
@@ -14,13 +15,11 @@ use lib.Seq.{sets}
 use Rattle.sums.specs.Lists.{at}
 use Rattle.printing.specs.Text.{spell, decimal}
 use Rattle.printing.proofs.Digits.{tenth}
-use Rattle.text.specs.Faults.{fault_number}
 use Rattle.text.specs.Fields.{is_digit, all_digits, worth, parsed_as, parsed}
-use Rattle.text.specs.Lines.{separator, newline, cut, lines, pieces, over, step, empty_line, named, numbered, same}
+use Rattle.text.specs.Lines.{separator, newline, cut, lines, pieces, over, step, empty_line, named, numbered}
 use Rattle.text.specs.Lines.{agent_word, boundary_word, plant_word, contract_word, price_word, word_of, read_line, line_fault}
 use Rattle.text.specs.Written.{joined, row_text}
 use Rattle.text.specs.declared.Fault.{Fault}
-use Rattle.text.specs.declared.Parsed.{Parsed}
 use Rattle.text.specs.declared.Line.{Line}
 
 -- ---- a number
@@ -64,7 +63,7 @@ some_spell (suc k) n rest = go (ltb n 10) (some_spell k (n / 10) ((48 + n % 10) 
     go false r = r
 
 -- a number of 32 bits, printed and read
-pub number_back : (n : ℕ) → n < 2 ^ 32 → parsed (decimal n []) ≡ Parsed.Value n
+pub number_back : (n : ℕ) → n < 2 ^ 32 → parsed (decimal n []) ≡ Ok n
 unfolding parsed parsed_as all_digits worth
 number_back n h =
     let b : n < 10 ^ (19 + 1) = omega arith in
@@ -148,7 +147,7 @@ AllFit (n ∷ ns) = (n < 2 ^ 32) × AllFit ns
 
 abbrev with_one : Line → ℕ → Line
 with_one l n =
-    record { count = l.count + 1; word = l.word; numbers = set l.numbers (l.count - 1) n; money = l.money; fault = Fault.None }
+    record { count = l.count + 1; word = l.word; numbers = set l.numbers (l.count - 1) n; money = l.money; fault = None }
 
 -- and with all of them
 abbrev pub with_all : Line → List ℕ → Line
@@ -158,12 +157,12 @@ with_all l ns =
       word = l.word;
       numbers = sets l.numbers (l.count - 1) ns;
       money = l.money;
-      fault = Fault.None;
+      fault = None;
     }
 
-step_number : (l : Line) (n : ℕ) → l.fault ≡ Fault.None → 1 ≤ l.count → l.count < 8 → n < 2 ^ 32
+step_number : (l : Line) (n : ℕ) → l.fault ≡ None → 1 ≤ l.count → l.count < 8 → n < 2 ^ 32
     → step l (decimal n []) ≡ with_one l n
-unfolding step numbered fault_number
+unfolding step numbered
 step_number l n f p q h =
     let s : 0 < length (decimal n []) = some_spell 19 n [] in
     rw (
@@ -174,13 +173,13 @@ step_number l n f p q h =
       number_back n h,
     )
 
-pub numbers_back : (l : Line) (ns : List ℕ) → l.fault ≡ Fault.None → 1 ≤ l.count → l.count + length ns ≤ 8 → AllFit ns
+pub numbers_back : (l : Line) (ns : List ℕ) → l.fault ≡ None → 1 ≤ l.count → l.count + length ns ≤ 8 → AllFit ns
     → over step l (texts ns)
     ≡ with_all l ns
 unfolding over
 numbers_back l [] f p q h =
     let e : l.count + 0 ≡ l.count = omega arith in
-    rw e (ap (λ (x : Fault). record { count = l.count; word = l.word; numbers = l.numbers; money = l.money; fault = x }) f)
+    rw e (ap (λ (x : Option Fault). record { count = l.count; word = l.word; numbers = l.numbers; money = l.money; fault = x }) f)
 numbers_back l (n ∷ ns) f p q h =
     let a : l.count + 1 + length ns ≡ l.count + suc (length ns) = omega arith in
     let b : l.count + 1 - 1 ≡ suc (l.count - 1) = omega arith in
@@ -189,7 +188,7 @@ numbers_back l (n ∷ ns) f p q h =
     ∙ ap₂ (λ (x y : ℕ). with_all x (sets (set l.numbers (l.count - 1) n) y ns)) a b
   where
     with_all : ℕ → List ℕ → Line
-    with_all x ns = record { count = x; word = l.word; numbers = ns; money = l.money; fault = Fault.None }
+    with_all x ns = record { count = x; word = l.word; numbers = ns; money = l.money; fault = None }
 
 -- a word that begins a line: known, and no separator, line end or `#` in front
 pub record Known (word : List ℕ) : Type 0 where
@@ -201,10 +200,10 @@ pub record Known (word : List ℕ) : Type 0 where
 
 -- a line of this word alone
 abbrev pub word_line : List ℕ → Line
-word_line word = record { count = 1; word = word_of word; numbers = empty_line.numbers; money = pos 0; fault = Fault.None }
+word_line word = record { count = 1; word = word_of word; numbers = empty_line.numbers; money = pos 0; fault = None }
 
 pub first_word : (word : List ℕ) → Known word → step empty_line word ≡ word_line word
-unfolding step named fault_number
+unfolding step named
 first_word word k =
     let s = k.some in
     let w = k.known in
@@ -213,7 +212,7 @@ first_word word k =
 -- what a line of this word and up to seven numbers of 32 bits is read as
 abbrev pub row_line : (word ns : List ℕ) → Line
 row_line word ns =
-    record { count = 1 + length ns; word = word_of word; numbers = sets empty_line.numbers 0 ns; money = pos 0; fault = Fault.None }
+    record { count = 1 + length ns; word = word_of word; numbers = sets empty_line.numbers 0 ns; money = pos 0; fault = None }
 
 pub line_back : (word ns : List ℕ) → Known word → length ns ≤ 7 → AllFit ns → read_line (word ++ joined ns []) ≡ row_line word ns
 unfolding over read_line cut
@@ -224,8 +223,8 @@ line_back word ns k q a =
     ∙ numbers_back (word_line word) ns refl (omega arith) (omega arith) a)
 
 -- which is right by itself where the word wants so many
-pub line_right : (word ns : List ℕ) (n : ℕ) → length ns ≡ n → line_fault true n (row_line word ns) ≡ Fault.None
-unfolding line_fault fault_number
+pub line_right : (word ns : List ℕ) (n : ℕ) → length ns ≡ n → line_fault true n (row_line word ns) ≡ None
+unfolding line_fault
 line_right word ns n e =
     rw (
       ne_eqb (1 + length ns) 0 (λ q. absurd (omega arith)),
@@ -258,7 +257,7 @@ row_first word ns rest k =
 
 -- ---- the words of sheets and statements
 pub agent_known : Known agent_word
-unfolding word_of same
+unfolding word_of
 agent_known =
     record {
       apart = (refl, (refl, (refl, (refl, (refl, tt)))));
@@ -269,7 +268,7 @@ agent_known =
     }
 
 pub boundary_known : Known boundary_word
-unfolding word_of same
+unfolding word_of
 boundary_known =
     record {
       apart = (refl, (refl, (refl, (refl, (refl, (refl, (refl, (refl, tt))))))));
@@ -280,7 +279,7 @@ boundary_known =
     }
 
 pub plant_known : Known plant_word
-unfolding word_of same
+unfolding word_of
 plant_known =
     record {
       apart = (refl, (refl, (refl, (refl, (refl, tt)))));
@@ -291,7 +290,7 @@ plant_known =
     }
 
 pub price_known : Known price_word
-unfolding word_of same
+unfolding word_of
 price_known =
     record {
       apart = (refl, (refl, (refl, (refl, (refl, tt)))));
@@ -302,7 +301,7 @@ price_known =
     }
 
 pub contract_known : Known contract_word
-unfolding word_of same
+unfolding word_of
 contract_known =
     record {
       apart = (refl, (refl, (refl, (refl, (refl, (refl, (refl, (refl, tt))))))));

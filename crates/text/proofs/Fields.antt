@@ -1,20 +1,19 @@
 -- Laws of numbers as they are read: a value that is held at a bound on the way is held at it in the end, so the code need not know
 -- how long a field is. Assumes nothing.
+use Rattle.std.specs.Prelude.{Result, Ok, Err, Some, None}
 use Prim.Native.Nat.{ℕ, ◌+◌, ◌-◌, ◌*◌, ◌<◌, ◌≤◌, min}
-use mathlib.Core.Path.{◌≡◌, refl, ap, ap₂, sym, ◌∙◌}
+use mathlib.Core.Path.{◌≡◌, refl, ap, sym, ◌∙◌}
 use mathlib.Core.Bool.{Bool, true, false, cond, ◌&&◌}
 use mathlib.Core.List.{List, [], ◌∷◌}
 use native.Mathlib.Omega.{arith}
 use native.Mathlib.Decide.{dec_lt}
-use borrow.Author.Tests.{lt-leb, le-ltb}
-use lib.Dec.{leb, ltb}
-use lib.IntN.{pos, neg_ℤ}
+use borrow.Author.Tests.{lt-ltb, lt-leb, le-ltb}
+use Rattle.std.specs.Cmp.Lexicographic.{pointwise}
+use lib.Dec.{leb, ltb, eqb}
+use lib.IntN.{ℤ, pos, neg_ℤ}
 use lib.ListN.{length, take, drop, drop_of_length-le}
-use lib.Seq.{take-length}
 use Rattle.sums.specs.Lists.{at}
 use Rattle.text.specs.declared.Fault.{Fault}
-use Rattle.text.specs.declared.Parsed.{Parsed}
-use Rattle.text.specs.declared.Owed.{Owed}
 use Rattle.text.specs.Fields.{is_digit, all_digits, is_number, worth, parsed_as, has_minus, unsigned, owed_as, owed_in}
 use Rattle.text.proofs.Lines.{next}
 
@@ -35,21 +34,20 @@ digits_next : (i : ℕ) (l : List ℕ) → i < length l → all_digits (drop i l
 unfolding all_digits
 digits_next i l h = ap all_digits (next l i h)
 
-and_assoc : (t u v : Bool) → (t && (u && v)) ≡ ((t && u) && v)
-and_assoc true u v = refl
-and_assoc false u v = refl
+-- one byte more: no digit, and the field is no number; or a digit
+pub no_digit : (s : List ℕ) (i : ℕ) → i < length s → is_digit (at s i) ≡ false → all_digits (drop i s) ≡ all_digits s
+    → is_number s ≡ false
+no_digit s i h d e =
+    let f : all_digits s ≡ false = sym e ∙ digits_next i s h ∙ (rw d) in
+    rw f (and_false (ltb 0 (length s)))
+  where
+    and_false : (t : Bool) → (t && false) ≡ false
+    and_false true = refl
+    and_false false = refl
 
-and_end : (t : Bool) → (t && true) ≡ t
-and_end true = refl
-and_end false = refl
-
--- one byte more
-pub digits_step : (s : List ℕ) (i : ℕ) (g t : Bool) → i < length s → (g && all_digits (drop i s)) ≡ t
-    → ((g && is_digit (at s i)) && all_digits (drop (i + 1) s)) ≡ t
-digits_step s i g t h e =
-    sym (and_assoc g (is_digit (at s i)) (all_digits (drop (i + 1) s)))
-    ∙ ap (λ (u : Bool). g && u) (sym (digits_next i s h))
-    ∙ e
+pub digits_step : (s : List ℕ) (i : ℕ) (t : Bool) → i < length s → is_digit (at s i) ≡ true → all_digits (drop i s) ≡ t
+    → all_digits (drop (i + 1) s) ≡ t
+digits_step s i t h d e = (rw d at (sym (digits_next i s h))) ∙ e
 
 pub worth_step : (s : List ℕ) (i v t : ℕ) → i < length s → min (worth v (drop i s)) bound ≡ t
     → min (worth (min (10 * v + (at s i - 48)) bound) (drop (i + 1) s)) bound ≡ t
@@ -60,10 +58,11 @@ worth_step s i v t h e =
     ∙ e
 
 -- all bytes are read
-pub digits_end : (s : List ℕ) (i : ℕ) (g t : Bool) → length s ≤ i → (g && all_digits (drop i s)) ≡ t → g ≡ t
+pub digits_end : (s : List ℕ) (i : ℕ) → 0 < length s → length s ≤ i → all_digits (drop i s) ≡ all_digits s → is_number s ≡ true
 unfolding all_digits
-digits_end s i g t l d =
-    sym (and_end g) ∙ ap (λ (r : List ℕ). g && all_digits r) (sym (drop_of_length-le s l)) ∙ d
+digits_end s i p l e =
+    let a : all_digits s ≡ true = sym e ∙ ap all_digits (drop_of_length-le s l) in
+    rw (lt-ltb 0 (length s) p, a)
 
 pub worth_end : (s : List ℕ) (i v t : ℕ) → length s ≤ i → v ≤ bound → min (worth v (drop i s)) bound ≡ t → v ≡ t
 unfolding worth
@@ -77,8 +76,8 @@ unfolding parsed_as
 parsed_held false n = refl
 parsed_held true n = go (dec_lt n bound)
   where
-    pick_one : ℕ → Parsed
-    pick_one k = cond (leb k 4294967295) (Parsed.Value k) (Parsed.Wrong Fault.TooLarge)
+    pick_one : ℕ → Result ℕ Fault
+    pick_one k = cond (leb k 4294967295) (Ok k) (Err Fault.TooLarge)
 
     go : Dec (n < bound) → pick_one (min n bound) ≡ pick_one n
     go (yes l) = let i : min n bound ≡ n = omega arith in ap pick_one i
@@ -93,8 +92,8 @@ unfolding owed_as
 owed_held b false n = refl
 owed_held b true n = go (dec_lt n bound)
   where
-    pick_one : ℕ → Owed
-    pick_one k = cond (ltb k bound) (Owed.Value (cond b (neg_ℤ (pos k)) (pos k))) (Owed.Wrong Fault.TooLarge)
+    pick_one : ℕ → Result ℤ Fault
+    pick_one k = cond (ltb k bound) (Ok (cond b (neg_ℤ (pos k)) (pos k))) (Err Fault.TooLarge)
 
     go : Dec (n < bound) → pick_one (min n bound) ≡ pick_one n
     go (yes l) = let i : min n bound ≡ n = omega arith in ap pick_one i
@@ -103,25 +102,27 @@ owed_held b true n = go (dec_lt n bound)
         let y : bound ≤ n = omega arith in
         rw (le-ltb (min n bound) bound x, le-ltb n bound y)
 
--- from the sign and what is behind it
-pub owed_parts : (s part : List ℕ) (below good : Bool) (value : ℕ) → has_minus s ≡ below → part ≡ unsigned s
-    → good ≡ is_number part → value ≡ min (worth 0 part) bound → owed_as below good value ≡ owed_in s
+-- where digits are read, there is a number or none
+pub no_money : (below g : Bool) (n : ℕ) → None ≡ cond g (Some (min n bound)) None → owed_as below g n ≡ Err Fault.NotANumber
+unfolding owed_as
+no_money below true n e = cc
+no_money below false n e = refl
+
+pub some_money : (below g : Bool) (n v : ℕ) → Some v ≡ cond g (Some (min n bound)) None → owed_as below g n ≡ owed_as below true v
+some_money below true n v e = let i : v ≡ min n bound = cc in rw i (sym (owed_held below true n))
+some_money below false n v e = cc
+
+-- the number is of what is behind the sign
+pub owed_parts : (s part : List ℕ) (below : Bool) → has_minus s ≡ below → part ≡ unsigned s
+    → owed_as below (is_number part) (worth 0 part) ≡ owed_in s
 unfolding owed_in
-owed_parts s part below good value m p g v =
-    ap (λ (b : Bool). owed_as b good value) (sym m)
-    ∙ ap₂ (owed_as (has_minus s)) (g ∙ ap is_number p) (v ∙ ap (λ (l : List ℕ). min (worth 0 l) bound) p)
-    ∙ owed_held (has_minus s) (is_number (unsigned s)) (worth 0 (unsigned s))
+owed_parts s part below m p = rw (p, m)
 
-tail_whole : (s : List ℕ) → take (length s - 1) (drop 1 s) ≡ drop 1 s
-tail_whole [] = refl
-tail_whole (b ∷ bs) = let e : length (b ∷ bs) - 1 ≡ length bs = omega arith in rw e (take-length bs)
+-- the test of a sign in front
+and_true : (t : Bool) → (t && true) ≡ t
+and_true true = refl
+and_true false = refl
 
-pub behind_minus : (s : List ℕ) → has_minus s ≡ true → take (length s - 1) (drop 1 s) ≡ unsigned s
-behind_minus s m = rw m (tail_whole s)
-
-pub without_minus : (s : List ℕ) → has_minus s ≡ false → s ≡ unsigned s
-without_minus s m = rw m
-
-pub byte_there : (s : List ℕ) → at s 0 ≡ 45 → 0 < length s
-byte_there [] e = absurd (omega arith)
-byte_there (b ∷ bs) e = omega arith
+pub minus_ahead : (s : List ℕ) → pointwise eqb (take 1 s) (45 ∷ []) ≡ has_minus s
+minus_ahead [] = refl
+minus_ahead (b ∷ bs) = and_true (eqb b 45)

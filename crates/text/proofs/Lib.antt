@@ -1,4 +1,5 @@
 pub mod Lines
+pub mod Parts
 pub mod Fields
 pub mod Steps
 pub mod Back

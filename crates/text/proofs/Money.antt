@@ -1,5 +1,6 @@
 -- Money that was written is read as it was: its sign is no digit, no separator and no line end, and its digits are worth its size.
 -- Assumes nothing.
+use Rattle.std.specs.Prelude.{Ok, None}
 use Prim.Native.Nat.{ℕ, suc, ◌+◌, ◌^◌, ◌<◌, ◌≤◌}
 use mathlib.Core.Path.{◌≡◌, refl, ap, sym, ◌∙◌}
 use mathlib.Core.Bool.{Bool, true, false, cond}
@@ -11,12 +12,9 @@ use lib.IntN.{ℤ, pos, negsuc, neg_ℤ, nat_abs}
 use lib.ListN.{length}
 use Rattle.sums.proofs.Tests.{and_left}
 use Rattle.printing.specs.Text.{spell, decimal, minus, signed}
-use Rattle.text.specs.Faults.{fault_number}
 use Rattle.text.specs.Fields.{is_digit, all_digits, is_number, worth, has_minus, owed_as, owed_in}
 use Rattle.text.specs.Lines.{separator, newline, cut, lines, over, step, empty_line, owing, read_line, line_fault}
 use Rattle.text.specs.Written.{joined}
-use Rattle.text.specs.declared.Fault.{Fault}
-use Rattle.text.specs.declared.Owed.{Owed}
 use Rattle.text.specs.declared.Line.{Line}
 use Rattle.text.proofs.Back as back
 
@@ -32,14 +30,14 @@ no_minus (b ∷ bs) e =
     ne_eqb b 45 (λ q. absurd (omega arith))
 
 size_back : (below : Bool) (n : ℕ) → n < bound
-    → owed_as below (is_number (decimal n [])) (worth 0 (decimal n [])) ≡ Owed.Value (cond below (neg_ℤ (pos n)) (pos n))
+    → owed_as below (is_number (decimal n [])) (worth 0 (decimal n [])) ≡ Ok (cond below (neg_ℤ (pos n)) (pos n))
 unfolding owed_as all_digits worth
 size_back below n h =
     let b : n < 10 ^ (19 + 1) = omega arith in
     let some = lt-ltb 0 (length (spell 19 n [])) (back.some_spell 19 n []) in
     rw (some, back.digits_spell 19 n [], back.worth_spell 19 n [] b, lt-ltb n bound h)
 
-pub owed_back : (x : ℤ) → nat_abs x < bound → owed_in (signed x []) ≡ Owed.Value x
+pub owed_back : (x : ℤ) → nat_abs x < bound → owed_in (signed x []) ≡ Ok x
 unfolding owed_in signed minus all_digits
 owed_back (pos n) h = rw (no_minus (decimal n []) (back.digits_spell 19 n [])) (size_back false n h)
 owed_back (negsuc n) h = size_back true (suc n) h
@@ -67,10 +65,10 @@ over_then g s [] ys = refl
 over_then g s (x ∷ xs) ys = over_then g (g s x) xs ys
 
 abbrev with_owed : Line → ℤ → Line
-with_owed l x = record { count = l.count + 1; word = l.word; numbers = l.numbers; money = x; fault = Fault.None }
+with_owed l x = record { count = l.count + 1; word = l.word; numbers = l.numbers; money = x; fault = None }
 
-step_owed : (l : Line) (x : ℤ) → l.fault ≡ Fault.None → l.count ≡ 8 → nat_abs x < bound → step l (signed x []) ≡ with_owed l x
-unfolding step owing fault_number
+step_owed : (l : Line) (x : ℤ) → l.fault ≡ None → l.count ≡ 8 → nat_abs x < bound → step l (signed x []) ≡ with_owed l x
+unfolding step owing
 step_owed l x f e h =
     let s = signed_some x in
     rw (f, ne_eqb (length (signed x [])) 0 (λ q. absurd (omega arith)), e, owed_back x h)
@@ -95,8 +93,8 @@ owed_line_back word ns x k q a h =
     ∙ step_owed (back.with_all m ns) x refl (omega (arith, q)) h)
 
 -- which is right by itself where eight are wanted
-pub owed_right : (word ns : List ℕ) (x : ℤ) → length ns ≡ 7 → line_fault true 8 (owed_line word ns x) ≡ Fault.None
-unfolding line_fault fault_number
+pub owed_right : (word ns : List ℕ) (x : ℤ) → length ns ≡ 7 → line_fault true 8 (owed_line word ns x) ≡ None
+unfolding line_fault
 owed_right word ns x e = rw e
 
 -- it stands in front of a text as a line in front of its lines

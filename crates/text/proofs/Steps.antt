@@ -1,18 +1,17 @@
 -- Laws of a line that is read field by field. Assumes nothing.
+use Rattle.std.specs.Prelude.{Result, Ok, Err, is_some}
 use Prim.Native.Nat.{ℕ, ◌+◌, ◌-◌, ◌≤◌}
 use mathlib.Core.Path.{◌≡◌, refl, ◌∙◌}
 use mathlib.Core.Bool.{Bool, true, false, cond, ◌||◌}
 use mathlib.Core.List.{List, [], ◌∷◌}
 use native.Mathlib.Omega.{arith}
 use lib.Dec.{ltb, eqb}
+use lib.IntN.{ℤ}
 use lib.ListN.{length, length-set}
 use Rattle.sums.specs.Lists.{at}
-use Rattle.text.specs.Faults.{found}
 use Rattle.text.specs.Fields.{parsed, owed_in}
 use Rattle.text.specs.Lines.{named, numbered, owing, skipped, step, over, pieces, empty_line, read_line, word_of}
 use Rattle.text.specs.declared.Fault.{Fault}
-use Rattle.text.specs.declared.Parsed.{Parsed}
-use Rattle.text.specs.declared.Owed.{Owed}
 use Rattle.text.specs.declared.Line.{Line}
 
 -- which of two
@@ -26,26 +25,22 @@ More l r = r.count ≤ l.count + 1
 
 named_count : (l : Line) (w : ℕ) → More l (named l w)
 unfolding named
-named_count l w =
-    either (More l) (eqb w 0)
-    (record { count = 1; word = 0; numbers = l.numbers; money = l.money; fault = Fault.Word })
-    (record { count = 1; word = w; numbers = l.numbers; money = l.money; fault = Fault.None })
-    (omega arith) (omega arith)
+named_count l w = omega arith
 
-numbered_count : (l : Line) (p : Parsed) → More l (numbered l p)
+numbered_count : (l : Line) (p : Result ℕ Fault) → More l (numbered l p)
 unfolding numbered
-numbered_count l (Parsed.Value v) = omega arith
-numbered_count l (Parsed.Wrong f) = omega arith
+numbered_count l (Ok v) = omega arith
+numbered_count l (Err f) = omega arith
 
-owing_count : (l : Line) (p : Owed) → More l (owing l p)
+owing_count : (l : Line) (p : Result ℤ Fault) → More l (owing l p)
 unfolding owing
-owing_count l (Owed.Value x) = omega arith
-owing_count l (Owed.Wrong f) = omega arith
+owing_count l (Ok x) = omega arith
+owing_count l (Err f) = omega arith
 
 pub step_count : (l : Line) (f : List ℕ) → More l (step l f)
 unfolding step
 step_count l f =
-    either (More l) (found l.fault || eqb (length f) 0) l _ (omega arith)
+    either (More l) (is_some l.fault || eqb (length f) 0) l _ (omega arith)
     (either (More l) (eqb l.count 0) (named l (word_of f)) _ (named_count l (word_of f))
     (either (More l) (ltb l.count 8) (numbered l (parsed f)) _ (numbered_count l (parsed f))
     (either (More l) (eqb l.count 8) (owing l (owed_in f)) (skipped l) (owing_count l (owed_in f)) (omega arith))))
@@ -56,26 +51,22 @@ Seven l = length l.numbers ≡ 7
 
 named_seven : (l : Line) (w : ℕ) → Seven l → Seven (named l w)
 unfolding named
-named_seven l w h =
-    either Seven (eqb w 0)
-    (record { count = 1; word = 0; numbers = l.numbers; money = l.money; fault = Fault.Word })
-    (record { count = 1; word = w; numbers = l.numbers; money = l.money; fault = Fault.None })
-    h h
+named_seven l w h = h
 
-numbered_seven : (l : Line) (p : Parsed) → Seven l → Seven (numbered l p)
+numbered_seven : (l : Line) (p : Result ℕ Fault) → Seven l → Seven (numbered l p)
 unfolding numbered
-numbered_seven l (Parsed.Value v) h = length-set l.numbers (l.count - 1) v ∙ h
-numbered_seven l (Parsed.Wrong f) h = h
+numbered_seven l (Ok v) h = length-set l.numbers (l.count - 1) v ∙ h
+numbered_seven l (Err f) h = h
 
-owing_seven : (l : Line) (p : Owed) → Seven l → Seven (owing l p)
+owing_seven : (l : Line) (p : Result ℤ Fault) → Seven l → Seven (owing l p)
 unfolding owing
-owing_seven l (Owed.Value x) h = h
-owing_seven l (Owed.Wrong f) h = h
+owing_seven l (Ok x) h = h
+owing_seven l (Err f) h = h
 
 step_seven : (l : Line) (f : List ℕ) → Seven l → Seven (step l f)
 unfolding step
 step_seven l f h =
-    either Seven (found l.fault || eqb (length f) 0) l _ h
+    either Seven (is_some l.fault || eqb (length f) 0) l _ h
     (either Seven (eqb l.count 0) (named l (word_of f)) _ (named_seven l (word_of f) h)
     (either Seven (ltb l.count 8) (numbered l (parsed f)) _ (numbered_seven l (parsed f) h)
     (either Seven (eqb l.count 8) (owing l (owed_in f)) (skipped l) (owing_seven l (owed_in f) h) h)))

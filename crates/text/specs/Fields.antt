@@ -1,9 +1,8 @@
 -- A field as a number: one decimal digit or more, and money with a sign before them or none. Leading zeros are read. Assumes nothing.
-use Rattle.std.specs.Prelude.{ℕ, ◌+◌, ◌-◌, ◌*◌, Bool, true, cond, ◌&&◌, List, [], ◌∷◌, pos, neg_ℤ, length, drop, leb, ltb, eqb}
+use Rattle.std.specs.Prelude.{ℕ, ◌+◌, ◌-◌, ◌*◌, Bool, true, cond, ◌&&◌, List, [], ◌∷◌, ℤ, pos, neg_ℤ, length, drop, leb, ltb, eqb}
+use Rattle.std.specs.Prelude.{Result, Ok, Err}
 use Rattle.sums.specs.Lists.{at}
 use Rattle.text.specs.declared.Fault.{Fault}
-use Rattle.text.specs.declared.Parsed.{Parsed}
-use Rattle.text.specs.declared.Owed.{Owed}
 
 -- `0` to `9`
 abbrev pub is_digit : ℕ → Bool
@@ -22,12 +21,12 @@ worth a [] = a
 worth a (b ∷ bs) = worth (10 * a + (b - 48)) bs
 
 -- a number of 32 bits, or why there is none
-unfoldable pub parsed_as : (good : Bool) (value : ℕ) → Parsed
+unfoldable pub parsed_as : (good : Bool) (value : ℕ) → Result ℕ Fault
 parsed_as good value =
-    cond good (cond (leb value 4294967295) (Parsed.Value value) (Parsed.Wrong Fault.TooLarge))
-    (Parsed.Wrong Fault.NotANumber)
+    cond good (cond (leb value 4294967295) (Ok value) (Err Fault.TooLarge))
+    (Err Fault.NotANumber)
 
-unfoldable pub parsed : List ℕ → Parsed
+unfoldable pub parsed : List ℕ → Result ℕ Fault
 parsed l = parsed_as (is_number l) (worth 0 l)
 
 -- ---- money: a minus sign and a number, or a number, less than 10^18 in size
@@ -37,11 +36,11 @@ has_minus l = eqb (at l 0) 45
 abbrev pub unsigned : List ℕ → List ℕ
 unsigned l = cond (has_minus l) (drop 1 l) l
 
-unfoldable pub owed_as : (below good : Bool) (value : ℕ) → Owed
+unfoldable pub owed_as : (below good : Bool) (value : ℕ) → Result ℤ Fault
 owed_as below good value =
     cond good
-    (cond (ltb value 1000000000000000000) (Owed.Value (cond below (neg_ℤ (pos value)) (pos value))) (Owed.Wrong Fault.TooLarge))
-    (Owed.Wrong Fault.NotANumber)
+    (cond (ltb value 1000000000000000000) (Ok (cond below (neg_ℤ (pos value)) (pos value))) (Err Fault.TooLarge))
+    (Err Fault.NotANumber)
 
-unfoldable pub owed_in : List ℕ → Owed
+unfoldable pub owed_in : List ℕ → Result ℤ Fault
 owed_in l = owed_as (has_minus l) (is_number (unsigned l)) (worth 0 (unsigned l))

@@ -2,4 +2,3 @@ pub mod Faults
 pub mod Fields
 pub mod Lines
 pub mod Written
-pub mod Stretches

@@ -1,12 +1,11 @@
 -- A text as its lines, a line as its fields, and a line as a word with numbers behind it. Every string of bytes is a text.
 -- Assumes nothing.
-use Rattle.std.specs.Prelude.{ℕ, ◌+◌, ◌-◌, Bool, true, false, cond, ◌&&◌, ◌||◌, List, [], ◌∷◌, ◌++◌, pos, length, set, ltb, eqb}
+use Rattle.std.specs.Prelude.{ℕ, ◌+◌, ◌-◌, Bool, cond, ◌||◌, List, [], ◌∷◌, ◌++◌, ℤ, pos, length, set, ltb, eqb}
+use Rattle.std.specs.Prelude.{Option, Some, None, is_some, Result, Ok, Err}
+use Rattle.std.specs.Str.{bytes_eq}
 use Rattle.sums.specs.Lists.{at}
-use Rattle.text.specs.Faults.{found}
 use Rattle.text.specs.Fields.{parsed, owed_in}
 use Rattle.text.specs.declared.Fault.{Fault}
-use Rattle.text.specs.declared.Parsed.{Parsed}
-use Rattle.text.specs.declared.Owed.{Owed}
 use Rattle.text.specs.declared.Line.{Line}
 
 -- lines are apart by LF
@@ -34,12 +33,6 @@ over g s [] = s
 over g s (x ∷ xs) = over g (g s x) xs
 
 -- ---- words
-unfoldable pub same : List ℕ → List ℕ → Bool
-same [] [] = true
-same [] (c ∷ cs) = false
-same (b ∷ bs) [] = false
-same (b ∷ bs) (c ∷ cs) = eqb b c && same bs cs
-
 -- `agent`, `boundary`, `plant`, `contract`, `price`
 abbrev pub agent_word : List ℕ
 agent_word = 97 ∷ 103 ∷ 101 ∷ 110 ∷ 116 ∷ []
@@ -62,27 +55,32 @@ word_by a b p c x = cond a 1 (cond b 2 (cond p 3 (cond c 4 (cond x 5 0))))
 
 unfoldable pub word_of : List ℕ → ℕ
 word_of f =
-    word_by (same f agent_word) (same f boundary_word) (same f plant_word) (same f contract_word) (same f price_word)
+    word_by (bytes_eq f agent_word) (bytes_eq f boundary_word) (bytes_eq f plant_word) (bytes_eq f contract_word)
+    (bytes_eq f price_word)
 
 -- ---- a line: how many fields it has, its word, the first seven numbers behind it, the eighth as money, and what is wrong. No word: 0
 abbrev pub empty_line : Line
-empty_line = record { count = 0; word = 0; numbers = 0 ∷ 0 ∷ 0 ∷ 0 ∷ 0 ∷ 0 ∷ 0 ∷ []; money = pos 0; fault = Fault.None }
+empty_line = record { count = 0; word = 0; numbers = 0 ∷ 0 ∷ 0 ∷ 0 ∷ 0 ∷ 0 ∷ 0 ∷ []; money = pos 0; fault = None }
 
 unfoldable pub named : Line → (word : ℕ) → Line
 named l w =
-    cond (eqb w 0)
-    (record { count = 1; word = 0; numbers = l.numbers; money = l.money; fault = Fault.Word })
-    (record { count = 1; word = w; numbers = l.numbers; money = l.money; fault = Fault.None })
+    record {
+      count = 1;
+      word = w;
+      numbers = l.numbers;
+      money = l.money;
+      fault = cond (eqb w 0) (Some Fault.Word) None;
+    }
 
-unfoldable pub numbered : Line → Parsed → Line
-numbered l (Parsed.Value v) =
-    record { count = l.count + 1; word = l.word; numbers = set l.numbers (l.count - 1) v; money = l.money; fault = Fault.None }
-numbered l (Parsed.Wrong f) =
-    record { count = l.count + 1; word = l.word; numbers = l.numbers; money = l.money; fault = f }
+unfoldable pub numbered : Line → Result ℕ Fault → Line
+numbered l (Ok v) =
+    record { count = l.count + 1; word = l.word; numbers = set l.numbers (l.count - 1) v; money = l.money; fault = None }
+numbered l (Err f) =
+    record { count = l.count + 1; word = l.word; numbers = l.numbers; money = l.money; fault = Some f }
 
-unfoldable pub owing : Line → Owed → Line
-owing l (Owed.Value x) = record { count = l.count + 1; word = l.word; numbers = l.numbers; money = x; fault = Fault.None }
-owing l (Owed.Wrong f) = record { count = l.count + 1; word = l.word; numbers = l.numbers; money = l.money; fault = f }
+unfoldable pub owing : Line → Result ℤ Fault → Line
+owing l (Ok x) = record { count = l.count + 1; word = l.word; numbers = l.numbers; money = x; fault = None }
+owing l (Err f) = record { count = l.count + 1; word = l.word; numbers = l.numbers; money = l.money; fault = Some f }
 
 -- a field behind the money is counted, whatever stands in it
 abbrev pub skipped : Line → Line
@@ -91,7 +89,7 @@ skipped l = record { count = l.count + 1; word = l.word; numbers = l.numbers; mo
 -- one stretch more: an empty one is no field, and behind a fault nothing counts
 unfoldable pub step : Line → List ℕ → Line
 step l f =
-    cond (found l.fault || eqb (length f) 0) l
+    cond (is_some l.fault || eqb (length f) 0) l
     (cond (eqb l.count 0) (named l (word_of f))
     (cond (ltb l.count 8) (numbered l (parsed f)) (cond (eqb l.count 8) (owing l (owed_in f)) (skipped l))))
 
@@ -101,9 +99,9 @@ read_line bytes = cond (eqb (at bytes 0) 35) empty_line (over step empty_line (p
 
 -- ---- what is wrong with a line by itself, where its word is known or not and wants so many numbers behind it. Too few or too many
 -- are told only where each that is read can be read; a line without a word is right
-unfoldable pub line_fault : (known : Bool) (wanted : ℕ) → Line → Fault
+unfoldable pub line_fault : (known : Bool) (wanted : ℕ) → Line → Option Fault
 line_fault known wanted l =
     cond known
-    (cond (found l.fault || eqb l.count 0) l.fault
-    (cond (ltb (l.count - 1) wanted) Fault.Few (cond (ltb wanted (l.count - 1)) Fault.Many Fault.None)))
-    Fault.Word
+    (cond (is_some l.fault || eqb l.count 0) l.fault
+    (cond (ltb (l.count - 1) wanted) (Some Fault.Few) (cond (ltb wanted (l.count - 1)) (Some Fault.Many) None)))
+    (Some Fault.Word)

@@ -1,74 +1,34 @@
 // A field as a number.
-ghost use Rattle.std.specs.Prelude.{◌≡◌, ◌+◌, ◌-◌, ◌*◌, ◌≤◌, ◌<◌, min, cond, pos, neg_ℤ};
-ghost use Rattle.text.specs.Fields.{is_digit, is_number, worth, parsed_as, parsed, owed_as, owed_in};
+ghost use Rattle.std.specs.Prelude.{◌≡◌, ◌<◌, min, cond, pos, neg_ℤ, Some, None};
+ghost use Rattle.text.specs.Fields.{is_number, worth, parsed, owed_as, owed_in};
 
-use super::{Fault, Owed, Parsed};
+use super::Fault;
 
-// Whether a field is all digits, and what they are worth, held at 10^18: ten times that and a digit more fit 64 bits.
-#[derive(Clone, Copy)]
-pub(crate) struct Held {
-    pub(crate) good: bool,
-    pub(crate) value: u64,
-}
+const HELD: u64 = 1_000_000_000_000_000_000;
 
-fn is_digit(b: u8) -> bool
-    ensures { result ≡ is_digit b }
+// What a field of digits is worth, held at 10^18: ten times that and a digit more fit 64 bits.
+fn digits(s: &[u8]) -> Option<u64>
+    ensures { result ≡ cond (is_number s.now) (Some (min (worth 0 s.now) 1000000000000000000)) None }
 {
-    (48 <= b) & (b <= 57)
-}
-
-// What the byte is worth as a digit.
-fn figure(b: u8) -> u64
-    ensures { (result ≡ b - 48) × (result < 256) }
-{
-    if b < 48 { 0 } else { (b - 48) as u64 }
-}
-
-fn more(a: u64, b: u8) -> u64
-    requires { a ≤ 1000000000000000000 }
-    ensures { result ≡ min (10 * a + (b - 48)) 1000000000000000000 }
-{
-    let n = 10 * a + figure(b);
-    if n < 1000000000000000000 {
-        n
-    } else {
-        1000000000000000000
+    if s.is_empty() {
+        return None;
     }
-}
-
-pub(crate) fn digits(s: &[u8]) -> Held
-    ensures { (result.good ≡ is_number s.now) × (result.value ≡ min (worth 0 s.now) 1000000000000000000) }
-{
-    let mut good = 0 < s.len();
     let mut value: u64 = 0;
-    let mut i: usize = 0;
-    while i < s.len() {
-        good = good & is_digit(s[i]);
-        value = more(value, s[i]);
-        i += 1;
-    }
-    Held { good, value }
-}
-
-fn parse(good: bool, value: u64) -> Parsed
-    ensures { result ≡ parsed_as good value }
-{
-    if good {
-        if value <= 4294967295 {
-            Parsed::Value(value as u32)
-        } else {
-            Parsed::Wrong(Fault::TooLarge)
+    for &b in s {
+        if !b.is_ascii_digit() {
+            return None;
         }
-    } else {
-        Parsed::Wrong(Fault::NotANumber)
+        value = (10 * value + u64::from(b - b'0')).min(HELD);
     }
+    Some(value)
 }
 
-pub(crate) fn number(s: &[u8]) -> Parsed
+#[tactic(auto, using(crate::proofs::Fields::parsed_held), unfolding(crate::specs::Fields::parsed, crate::specs::Fields::parsed_as))]
+pub(crate) fn number(s: &[u8]) -> Result<u32, Fault>
     ensures { result ≡ parsed s.now }
 {
-    let d = digits(s);
-    parse(d.good, d.value)
+    let value = digits(s).ok_or(Fault::NotANumber)?;
+    u32::try_from(value).or(Err(Fault::TooLarge))
 }
 
 // A number below 0 or not.
@@ -77,31 +37,24 @@ fn with_sign(below: bool, value: u64) -> i64
     ensures { result ≡ cond below (neg_ℤ (pos value)) (pos value) }
 {
     let x = value as i64;
-    if below { 0 - x } else { x }
+    if below { -x } else { x }
 }
 
-fn owed(below: bool, good: bool, value: u64) -> Owed
-    ensures { result ≡ owed_as below good value }
+fn owed(below: bool, s: &[u8]) -> Result<i64, Fault>
+    ensures { result ≡ owed_as below (is_number s.now) (worth 0 s.now) }
 {
-    if good {
-        if value < 1000000000000000000 {
-            Owed::Value(with_sign(below, value))
-        } else {
-            Owed::Wrong(Fault::TooLarge)
-        }
-    } else {
-        Owed::Wrong(Fault::NotANumber)
+    match digits(s) {
+        None => Err(Fault::NotANumber),
+        Some(value) if value < HELD => Ok(with_sign(below, value)),
+        Some(_) => Err(Fault::TooLarge),
     }
 }
 
-pub(crate) fn money(s: &[u8]) -> Owed
+pub(crate) fn money(s: &[u8]) -> Result<i64, Fault>
     ensures { result ≡ owed_in s.now }
 {
-    if super::first_byte(s) == b'-' {
-        let d = digits(&s[1..]);
-        owed(true, d.good, d.value)
-    } else {
-        let d = digits(s);
-        owed(false, d.good, d.value)
+    match s.strip_prefix(b"-") {
+        Some(unsigned) => owed(true, unsigned),
+        None => owed(false, s),
     }
 }

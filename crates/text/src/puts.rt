@@ -11,10 +11,8 @@ pub fn put_joined(s: &mut [u8], at: usize, v: &[u32]) -> usize
         s.old s.new at (21 * length v.now) result }
 {
     let mut i = at;
-    let mut k = v.len();
-    while k > 0 {
-        k -= 1;
-        i = pen::number(s, i, v[k]);
+    for &n in v.iter().rev() {
+        i = pen::number(s, i, n);
     }
     i
 }

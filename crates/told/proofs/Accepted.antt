@@ -1,5 +1,7 @@
 -- OURS IS ACCEPTED. What `tell` wrote of a sheet that settles, read back into any lists with room for it, passes a check: reading it
 -- leaves in them what settling would, since each of the hour's numbers fits its field. Assumes nothing.
+use Rattle.std.specs.Prelude.{Result, Ok}
+use Rattle.text.specs.declared.WrongLine.{WrongLine}
 use Prim.Native.Nat.{ℕ, zero, suc, ◌*◌, ◌/◌, ◌%◌, ◌≤◌, ◌<◌}
 use mathlib.Core.Path.{◌≡◌, refl, sym, ◌∙◌}
 use mathlib.Core.Bool.{true}
@@ -10,7 +12,7 @@ use lib.ListN.{get_or}
 use Rattle.sums.specs.Lists.{at}
 use Rattle.sums.proofs.Lists.{get_d_list_to}
 use Rattle.sums.proofs.Fill.{filled_count, filled_by}
-use Rattle.refusals.specs.declared.Verdict.{Verdict}
+use Rattle.refusals.specs.Refusals.{Verdict}
 use Rattle.sheet.specs.Reading.{counts_of}
 use Rattle.sheet.specs.declared.Counts.{Counts}
 use Rattle.sheet.proofs.Accepted.{accepted_few}
@@ -30,7 +32,6 @@ use Rattle.duties.proofs.Statements.{ours_accepted}
 use Rattle.columns.proofs.Refusing.{room_enough}
 use Rattle.page.proofs.Most.{money_small, hour_balanced, accepted, hour_sound}
 use Rattle.stating.specs.Read.{lists_fit, StatementInto}
-use Rattle.stating.specs.declared.Statement.{Statement}
 use Rattle.telling.specs.Tell.{own_lists, own_statement}
 use Rattle.told.proofs.Walks.{Writable}
 use Rattle.told.proofs.Back.{Kept, fitting, back}
@@ -60,7 +61,7 @@ module _ (s : Sheet) (ok : Sound s) (b : Balanced s) where
             (price_le s ok),
       )
 
-module _ (bytes : List ℕ) (fine : sheet_verdict bytes ≡ Verdict.Fine) where
+module _ (bytes : List ℕ) (fine : sheet_verdict bytes ≡ Ok tt) where
   abbrev h : Sheet
   h = hour_of bytes
 
@@ -108,7 +109,7 @@ module _ (bytes : List ℕ) (fine : sheet_verdict bytes ≡ Verdict.Fine) where
       }
 
   module _ (before after : Lent) (room : lists_fit c before ≡ true) where
-    has_room : room_verdict h before ≡ Verdict.Fine
+    has_room : room_verdict h before ≡ Ok tt
     has_room =
         let f = fitting c before room in
         room_fine h before
@@ -120,10 +121,10 @@ module _ (bytes : List ℕ) (fine : sheet_verdict bytes ≡ Verdict.Fine) where
         })
 
     -- the lists that were read into are as settling would leave them
-    settled : Kept c (own_lists h) before after → Settled bytes before after (summary_of Verdict.Fine h)
+    settled : Kept c (own_lists h) before after → Settled bytes before after (summary_of (Ok tt) h)
     unfolding verdict_of
     settled k =
-        let v : verdict_of bytes before ≡ Verdict.Fine = room_enough bytes before has_room ∙ fine in
+        let v : verdict_of bytes before ≡ (Ok tt) = room_enough bytes before has_room ∙ fine in
         let n : cells_per_agent * c.agents ≡ cells_per_agent * agents h = omega (arith, agents_is) in
         rw v
         (record {
@@ -135,10 +136,10 @@ module _ (bytes : List ℕ) (fine : sheet_verdict bytes ≡ Verdict.Fine) where
         })
 
     -- OUR STATEMENT, READ BACK, HAS THE BOLSA PRICE AND IS ACCEPTED
-    pub ours_read : (r : Statement) → StatementInto (own_statement bytes) c before r after
-        → (r ≡ Statement.Price (bolsa_price h))
-        × ((v : Verdict) → v ≡ check_verdict bytes (bolsa_price h) after → v ≡ Verdict.Fine)
+    pub ours_read : (r : Result ℕ WrongLine) → StatementInto (own_statement bytes) c before r after
+        → (r ≡ Ok (bolsa_price h))
+        × ((v : Verdict) → v ≡ check_verdict bytes (bolsa_price h) after → v ≡ Ok tt)
     unfolding own_statement
     ours_read r d =
         let x = back c (bolsa_price h) (own_lists h) writable before room r after d in
-        (x.0, ours_accepted bytes before after (summary_of Verdict.Fine h) (settled x.1) refl)
+        (x.0, ours_accepted bytes before after (summary_of (Ok tt) h) (settled x.1) refl)

@@ -1,4 +1,5 @@
 -- BACK. A statement that was written, read into any lists with room for it, gives the same price and the same cells. Assumes nothing.
+use Rattle.std.specs.Prelude.{Result, Ok}
 use Prim.Native.Nat.{ℕ, ◌*◌, ◌≤◌}
 use mathlib.Core.Path.{◌≡◌, ap, ◌∙◌}
 use mathlib.Core.Bool.{true}
@@ -13,9 +14,8 @@ use Rattle.sheet.specs.Reading.{counts_good}
 use Rattle.sheet.specs.declared.Counts.{Counts}
 use Rattle.hour.specs.Lines.{cells_per_agent}
 use Rattle.hour.specs.Answer.{Lent, money_in, schedule_in, amount_in}
-use Rattle.text.specs.Faults.{fault_number}
 use Rattle.stating.specs.Read.{lists_fit, statement_after, statement_of, stated_in, lists_after, StatementInto}
-use Rattle.stating.specs.declared.Statement.{Statement}
+use Rattle.text.specs.declared.WrongLine.{WrongLine}
 use Rattle.telling.specs.Text.{statement_text}
 use Rattle.told.proofs.Walks.{Writable}
 use Rattle.told.proofs.Lists.{figures_back, money_back, schedule_back, amounts_back, price_back}
@@ -41,18 +41,18 @@ fitting c l e =
 
 module _ (c : Counts) (p : ℕ) (l : Lent) (w : Writable c p l) (before : Lent) (room : lists_fit c before ≡ true) where
   -- the price
-  pub answer_back : statement_of c before (statement_text c p l) ≡ Statement.Price p
-  unfolding statement_of statement_after fault_number
+  pub answer_back : statement_of c before (statement_text c p l) ≡ Ok p
+  unfolding statement_of statement_after
   answer_back = rw (room, no_fault c p l w, price_back c p l w)
 
   -- WHAT WAS WRITTEN, READ, IS THE SAME STATEMENT: of every outcome that meets the promise of reading
-  pub back : (r : Statement) (after : Lent) → StatementInto (statement_text c p l) c before r after
-      → (r ≡ Statement.Price p) × Kept c l before after
+  pub back : (r : Result ℕ WrongLine) (after : Lent) → StatementInto (statement_text c p l) c before r after
+      → (r ≡ Ok p) × Kept c l before after
   unfolding lists_after
   back r after d =
       let e = d.answer ∙ answer_back in
       let s : after ≡ stated_in (statement_text c p l) before =
-      d.lists ∙ ap (λ (x : Statement). lists_after x (statement_text c p l) before) e in
+      d.lists ∙ ap (λ (x : Result ℕ WrongLine). lists_after x (statement_text c p l) before) e in
       let f = fitting c before room in
       let lists : Kept c l before (stated_in (statement_text c p l) before) =
       record {

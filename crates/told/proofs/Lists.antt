@@ -14,7 +14,7 @@ use Rattle.sums.specs.Lists.{at, Filled}
 use Rattle.sums.proofs.Fill.{filled_none, filled_more, filled_count}
 use Rattle.sheet.specs.declared.Counts.{Counts}
 use Rattle.hour.specs.Answer.{Lent, share_in, own_in, import_in, contracted_in, bought_in, sold_in, money_in, schedule_in, amount_in}
-use Rattle.text.specs.Lines.{lines, over, word_of, same}
+use Rattle.text.specs.Lines.{lines, over, word_of}
 use Rattle.text.specs.declared.Line.{Line}
 use Rattle.stating.specs.Rows.{figures_from, money_from, second_from, figures_line, money_line, second_line, price_line, price_in}
 use Rattle.telling.specs.Text.{statement_text}
@@ -73,7 +73,7 @@ one_filled d v before h e (suc n) r =
 module _ (c : Counts) (p : ℕ) (l : Lent) (w : Writable c p l) where
   pub figures_back : (before : List ℕ) → 6 * c.agents ≤ length before
       → Filled 0 before (over figures_line before (lines (statement_text c p l))) (6 * c.agents) (at l.figures)
-  unfolding figures_line word_of same
+  unfolding figures_line word_of
   figures_back before r =
       let agents = walk (λ a. figures_from (agent_read l a)) c.agents before in
       let plants = walk (λ i. figures_from (plant_read l i)) c.plants agents in
@@ -86,7 +86,7 @@ module _ (c : Counts) (p : ℕ) (l : Lent) (w : Writable c p l) where
 
   pub money_back : (before : List ℤ) → c.agents ≤ length before
       → Filled (pos 0) before (over money_line before (lines (statement_text c p l))) c.agents (money_in l)
-  unfolding money_line word_of same
+  unfolding money_line word_of
   money_back before r =
       let agents = walk (λ a. money_from (agent_read l a)) c.agents before in
       let plants = walk (λ i. money_from (plant_read l i)) c.plants agents in
@@ -99,7 +99,7 @@ module _ (c : Counts) (p : ℕ) (l : Lent) (w : Writable c p l) where
 
   pub schedule_back : (before : List ℕ) → c.plants ≤ length before
       → Filled 0 before (over (second_line 3) before (lines (statement_text c p l))) c.plants (schedule_in l)
-  unfolding second_line word_of same
+  unfolding second_line word_of
   schedule_back before r =
       let agents = walk (λ a. second_from 3 (agent_read l a)) c.agents before in
       let plants = walk (λ i. second_from 3 (plant_read l i)) c.plants agents in
@@ -113,7 +113,7 @@ module _ (c : Counts) (p : ℕ) (l : Lent) (w : Writable c p l) where
 
   pub amounts_back : (before : List ℕ) → c.contracts ≤ length before
       → Filled 0 before (over (second_line 4) before (lines (statement_text c p l))) c.contracts (amount_in l)
-  unfolding second_line word_of same
+  unfolding second_line word_of
   amounts_back before r =
       let agents = walk (λ a. second_from 4 (agent_read l a)) c.agents before in
       let e =
@@ -128,7 +128,7 @@ module _ (c : Counts) (p : ℕ) (l : Lent) (w : Writable c p l) where
   price_from x s = cond (eqb x.word 5) (at x.numbers 0) s
 
   pub price_back : price_in (statement_text c p l) ≡ p
-  unfolding price_in price_line price_from word_of same
+  unfolding price_in price_line price_from word_of
   price_back =
       let agents = walk (λ a. price_from (agent_read l a)) c.agents p in
       let plants = walk (λ i. price_from (plant_read l i)) c.plants agents in

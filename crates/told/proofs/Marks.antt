@@ -1,5 +1,6 @@
 -- The marks of a written statement: its lines are right by themselves and mark the rows in their order, the price's first, so that none
 -- is marked twice and in the end none is missing. Assumes nothing.
+use Rattle.std.specs.Prelude.{None, is_some}
 use Prim.Native.Nat.{ℕ, zero, suc, ◌+◌, ◌≤◌, ◌<◌}
 use mathlib.Core.Path.{◌≡◌, refl, ap, sym, subst, ◌∙◌}
 use mathlib.Core.Bool.{false, cond, not}
@@ -16,9 +17,7 @@ use Rattle.sums.proofs.Fill.{filled_none, filled_more}
 use Rattle.sums.proofs.First.{first_none}
 use Rattle.sheet.specs.declared.Counts.{Counts}
 use Rattle.hour.specs.Answer.{Lent, money_in, schedule_in, amount_in}
-use Rattle.text.specs.Faults.{fault_number, found, earlier}
-use Rattle.text.specs.Lines.{agent_word, plant_word, contract_word, price_word, empty_line, word_of, same, line_fault}
-use Rattle.text.specs.declared.Fault.{Fault}
+use Rattle.text.specs.Lines.{agent_word, plant_word, contract_word, price_word, empty_line, word_of, line_fault}
 use Rattle.text.specs.declared.Line.{Line}
 use Rattle.text.proofs.Back.{line_right}
 use Rattle.text.proofs.Money.{owed_right}
@@ -30,34 +29,34 @@ use Rattle.told.proofs.Over.{over_statement}
 
 -- a line as it is read, where no earlier one is wrong
 abbrev marking : Counts → Line → Marked → Marked
-marking c l j = cond (found j.fault) j (mark_row c j l)
+marking c l j = cond (is_some j.fault) j (mark_row c j l)
 
 -- the first k rows had their lines
 record Going (c : Counts) (j : Marked) (k : ℕ) : Type 0 where
-  fine : j.fault ≡ Fault.None
+  fine : j.fault ≡ None
   marks : Filled 0 (list_to (λ i. 0) (all_rows c)) j.marks k (λ i. 1)
 
 -- a line that is right by itself, of row k
 record Fits (c : Counts) (l : Line) (k : ℕ) : Type 0 where
-  right : line_fault (not (eqb l.word 2)) (asks l.word) l ≡ Fault.None
+  right : line_fault (not (eqb l.word 2)) (asks l.word) l ≡ None
   some : eqb l.word 0 ≡ false
   row : row_number l < rows_for c l.word
   place : row_place c l ≡ k
 
 statement_right : (c : Counts) (marks : List ℕ) (l : Line) (k : ℕ) → Fits c l k → at marks k ≡ 0
-    → statement_fault c marks l ≡ Fault.None
-unfolding statement_fault row_fault earlier fault_number
+    → statement_fault c marks l ≡ None
+unfolding statement_fault row_fault
 statement_right c marks l k t z =
     rw (t.right, t.some, lt-ltb (row_number l) (rows_for c l.word) t.row, t.place, z)
 
 mark_one : (c : Counts) (j : Marked) (l : Line) (k : ℕ) → k < all_rows c → Fits c l k → Going c j k → Going c (marking c l j) (k + 1)
-unfolding mark_row with_mark fault_number
+unfolding mark_row with_mark
 mark_one c j l k h t g =
     let z : at j.marks k ≡ 0 = g.marks.kept k (le_refl k) ∙ get_d_list_to 0 (λ i. 0) (all_rows c) k h in
     let e = statement_right c j.marks l k t z in
     let n = length_list_to {A = ℕ} (λ i. 0) (all_rows c) in
     let long : k < length j.marks = omega (arith, g.marks.long, n, h) in
-    let next : Marked = record { line = j.line + 1; fault = Fault.None; marks = set j.marks k 1 } in
+    let next : Marked = record { line = j.line + 1; fault = None; marks = set j.marks k 1 } in
     let is : marking c l j ≡ next = rw (g.fine, e, t.some, t.place) in
     subst (λ (x : Marked). Going c x (k + 1)) (sym is)
     (record { fine = refl; marks = filled_more 0 (list_to (λ i. 0) (all_rows c)) j.marks k 1 (λ i. 1) long refl g.marks })
@@ -74,29 +73,29 @@ mark_rows c reads j k (suc n) h t g =
 
 -- the empty line behind the last marks none
 mark_end : (c : Counts) (j : Marked) (k : ℕ) → Going c j k → Going c (marking c empty_line j) k
-unfolding mark_row with_mark statement_fault line_fault earlier fault_number
+unfolding mark_row with_mark statement_fault line_fault
 mark_end c j k g =
-    let next : Marked = record { line = j.line + 1; fault = Fault.None; marks = j.marks } in
+    let next : Marked = record { line = j.line + 1; fault = None; marks = j.marks } in
     let is : marking c empty_line j ≡ next = rw g.fine in
     subst (λ (x : Marked). Going c x k) (sym is) (record { fine = refl; marks = g.marks })
 
 module _ (c : Counts) (p : ℕ) (l : Lent) where
   price_fits : Fits c (price_read p) 0
-  unfolding word_of same asks rows_for rows_ahead row_number
+  unfolding word_of asks rows_for rows_ahead row_number
   price_fits = record { right = line_right price_word (p ∷ []) 1 refl; some = refl; row = omega arith; place = refl }
 
   agent_fits : (a : ℕ) → a < c.agents → Fits c (agent_read l a) (1 + a)
-  unfolding word_of same asks rows_for rows_ahead row_number
+  unfolding word_of asks rows_for rows_ahead row_number
   agent_fits a h =
       record { right = owed_right agent_word (agent_numbers l a) (money_in l a) refl; some = refl; row = h; place = refl }
 
   plant_fits : (i : ℕ) → i < c.plants → Fits c (plant_read l i) (1 + c.agents + i)
-  unfolding word_of same asks rows_for rows_ahead row_number
+  unfolding word_of asks rows_for rows_ahead row_number
   plant_fits i h =
       record { right = line_right plant_word (i ∷ schedule_in l i ∷ []) 2 refl; some = refl; row = h; place = refl }
 
   contract_fits : (j : ℕ) → j < c.contracts → Fits c (contract_read l j) (1 + c.agents + c.plants + j)
-  unfolding word_of same asks rows_for rows_ahead row_number
+  unfolding word_of asks rows_for rows_ahead row_number
   contract_fits j h =
       record { right = line_right contract_word (j ∷ amount_in l j ∷ []) 2 refl; some = refl; row = h; place = refl }
 
@@ -113,8 +112,8 @@ module _ (c : Counts) (p : ℕ) (l : Lent) where
       (mark_end c _ (all_rows c) contracts)
 
   -- NO LINE OF A WRITTEN STATEMENT IS WRONG, AND NO ROW IS MISSING
-  pub no_fault : Writable c p l → last_fault (marked_in c (statement_text c p l)) ≡ Fault.None
-  unfolding last_fault earlier fault_number
+  pub no_fault : Writable c p l → last_fault (marked_in c (statement_text c p l)) ≡ None
+  unfolding last_fault
   no_fault w =
       let g = all_marked w in
       let marks = (marked_in c (statement_text c p l)).marks in

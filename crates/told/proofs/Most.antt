@@ -1,5 +1,6 @@
 -- No statement of ours is longer than 27,547 bytes: no number has more than 20 digits, and no sheet more rows than its limits. So with a
 -- buffer of that length a sheet that settles is never refused. Assumes nothing.
+use Rattle.std.specs.Prelude.{Ok}
 use Prim.Native.Nat.{ℕ, zero, suc, ◌+◌, ◌*◌, ◌≤◌}
 use mathlib.Core.Path.{◌≡◌}
 use mathlib.Core.Bool.{Bool, true, false, cond}
@@ -8,7 +9,6 @@ use native.Mathlib.Omega.{arith}
 use borrow.Author.Tests.{le-leb}
 use lib.IntN.{ℤ, nat_abs}
 use lib.ListN.{length, length-append}
-use Rattle.refusals.specs.declared.Verdict.{Verdict}
 use Rattle.sheet.specs.Reading.{counts_of}
 use Rattle.sheet.specs.declared.Counts.{Counts}
 use Rattle.sheet.proofs.Accepted.{accepted_few}
@@ -76,7 +76,7 @@ statement_most c p l =
     contract_most : (j : ℕ) (rest : List ℕ) → length (contract_line l j rest) ≤ 51 + length rest
     contract_most j rest = row_most contract_word (j ∷ amount_in l j ∷ []) rest
 
-module _ (bytes : List ℕ) (fine : sheet_verdict bytes ≡ Verdict.Fine) where
+module _ (bytes : List ℕ) (fine : sheet_verdict bytes ≡ Ok tt) where
   pub own_most : length (own_statement bytes) ≤ 27547
   unfolding own_statement
   own_most =
@@ -85,7 +85,7 @@ module _ (bytes : List ℕ) (fine : sheet_verdict bytes ≡ Verdict.Fine) where
       omega (arith, most, few.agents, few.plants, few.contracts)
 
   -- A BUFFER OF 27,547 BYTES IS ENOUGH
-  pub never_short : (room : ℕ) → 27547 ≤ room → tell_verdict bytes room ≡ Verdict.Fine
+  pub never_short : (room : ℕ) → 27547 ≤ room → tell_verdict bytes room ≡ Ok tt
   never_short room h =
       let l : length (own_statement bytes) ≤ room = omega (arith, own_most) in
       rw (fine_verdict bytes room fine, le-leb (length (own_statement bytes)) room l)

@@ -7,7 +7,6 @@ use native.Mathlib.Omega.{arith}
 use Rattle.sheet.specs.declared.Counts.{Counts}
 use Rattle.hour.specs.Answer.{Lent, money_in, schedule_in, amount_in}
 use Rattle.printing.specs.Text.{signed, lines_to}
-use Rattle.text.specs.Faults.{fault_number}
 use Rattle.text.specs.Lines.{agent_word, plant_word, contract_word, price_word, empty_line, cut, lines, over, step, read_line}
 use Rattle.text.specs.Written.{joined, row_text}
 use Rattle.text.specs.declared.Line.{Line}
@@ -17,7 +16,7 @@ use Rattle.telling.specs.Text.{agent_numbers, agent_line, plant_line, contract_l
 use Rattle.told.proofs.Walks.{Writable, walk, price_read, agent_read, plant_read, contract_read}
 
 empty_read : read_line [] ≡ empty_line
-unfolding read_line over step cut fault_number
+unfolding read_line over step cut
 empty_read = refl
 
 module _ {S : Type 0} (g : S → List ℕ → S) (row : ℕ → List ℕ → List ℕ) (b : ℕ → List ℕ) (h : ℕ → S → S)

@@ -1,5 +1,6 @@
 -- The text of an accepted sheet, read, gives the sheet's numbers: each row is one line, which adds its numbers to its own section and
 -- nothing to another, and no line is wrong, since the sheet's counts are within their limits. Assumes nothing.
+use Rattle.std.specs.Prelude.{None, is_some}
 use Prim.Native.Nat.{ℕ, zero, suc, ◌+◌, ◌≤◌}
 use mathlib.Core.Path.{◌≡◌, refl, ap, ap₂, sym, ◌∙◌}
 use mathlib.Core.Bool.{Bool, true, false}
@@ -15,10 +16,8 @@ use Rattle.octets.specs.declared.Words.{Words}
 use Rattle.octets.proofs.Trip.{Narrow, Bytes, row_narrow}
 use Rattle.sheet.specs.Asking.{rows_in, rows_before}
 use Rattle.sheet.specs.declared.Counts.{Counts}
-use Rattle.text.specs.Faults.{fault_number, found, earlier}
-use Rattle.text.specs.Lines.{empty_line, lines, over, same, word_of, read_line, line_fault}
+use Rattle.text.specs.Lines.{empty_line, lines, over, word_of, read_line, line_fault}
 use Rattle.text.specs.Written.{joined}
-use Rattle.text.specs.declared.Fault.{Fault}
 use Rattle.text.specs.declared.Line.{Line}
 use Rattle.text.proofs.Back.{Known, AllFit, row_line, line_back, line_right, agent_known, boundary_known, plant_known, contract_known}
 use Rattle.text.proofs.Walks.{walked, over_rows}
@@ -37,11 +36,11 @@ pub record Section (k : ℕ) : Type 0 where
   pub fit : (w : Words) → Narrow w → AllFit (row_typed k w)
 
 pub agent_section : Section 1
-unfolding word_for word_of same row_typed wants
+unfolding word_for word_of row_typed wants
 agent_section = record { known = agent_known; is = refl; four = omega arith; wide = λ w. refl; fit = λ w n. (n.first, tt) }
 
 pub boundary_section : Section 2
-unfolding word_for word_of same row_typed wants
+unfolding word_for word_of row_typed wants
 boundary_section =
     record {
       known = boundary_known;
@@ -52,7 +51,7 @@ boundary_section =
     }
 
 pub plant_section : Section 3
-unfolding word_for word_of same row_typed wants
+unfolding word_for word_of row_typed wants
 plant_section =
     record {
       known = plant_known;
@@ -63,7 +62,7 @@ plant_section =
     }
 
 pub contract_section : Section 4
-unfolding word_for word_of same row_typed wants
+unfolding word_for word_of row_typed wants
 contract_section =
     record {
       known = contract_known;
@@ -114,7 +113,7 @@ added_none k c =
 
 -- no line was wrong, and these rows were counted
 pub record Going (j : Scan) (c : Counts) : Type 0 where
-  pub fine : j.fault ≡ Fault.None
+  pub fine : j.fault ≡ None
   pub counts : j.counts ≡ c
 
 -- ---- a section of a sheet's text
@@ -177,7 +176,7 @@ module _ (s : List ℕ) (by : Bytes s) (c : Counts) (k : ℕ) (S : Section k) wh
       ∙ ap (λ (l : List ℕ). over (gather_line m) l (lines rest)) (walk_other m h (rows_in c k) ns)
 
   -- and no line of it is wrong
-  row_right : (i : ℕ) → sheet_fault (row_line (word_for k) (row i)) ≡ Fault.None
+  row_right : (i : ℕ) → sheet_fault (row_line (word_for k) (row i)) ≡ None
   unfolding sheet_fault
   row_right i =
       let l = row_line (word_for k) (row i) in
@@ -186,7 +185,7 @@ module _ (s : List ℕ) (by : Bytes s) (c : Counts) (k : ℕ) (S : Section k) wh
 
   scan_one : (m : Counts) (j : Scan) (d : Counts) (i : ℕ) → Going j d → within_rooms (counted_in d k) m ≡ true
       → Going (scan_line m j (line i)) (counted_in d k)
-  unfolding scan_line scan_row earlier fault_number
+  unfolding scan_line scan_row
   scan_one m j d i g h =
       rw (g.fine, row_read_lem i, row_right i, S.is, g.counts, h) (record { fine = refl; counts = refl })
 
@@ -202,8 +201,8 @@ module _ (s : List ℕ) (by : Bytes s) (c : Counts) (k : ℕ) (S : Section k) wh
   -- so a text is right behind it where what follows is right
   pub scan_section : (m : Counts) (j : Scan) (d : Counts) (rest : List ℕ) → Going j d
       → ((i : ℕ) → i ≤ rows_in c k → within_rooms (added k i d) m ≡ true)
-      → ((q : Scan) → Going q (added k (rows_in c k) d) → found (over (scan_line m) q (lines rest)).fault ≡ false)
-      → found (over (scan_line m) j (lines (section_text s c k rest))).fault ≡ false
+      → ((q : Scan) → Going q (added k (rows_in c k) d) → is_some (over (scan_line m) q (lines rest)).fault ≡ false)
+      → is_some (over (scan_line m) j (lines (section_text s c k rest))).fault ≡ false
   scan_section m j d rest g h next =
-      ap (λ (q : Scan). found q.fault) (over_rows (scan_line m) (word_for k) S.known row (rows_in c k) j rest)
+      ap (λ (q : Scan). is_some q.fault) (over_rows (scan_line m) (word_for k) S.known row (rows_in c k) j rest)
       ∙ next (walked (scan_line m) (word_for k) S.known row (rows_in c k) j) (walk_scan m j d (rows_in c k) g h)

@@ -1,5 +1,7 @@
 -- Whole texts by the definitions, the answers worked out by hand: what is read of each, what `make` answers, and what is written of the
 -- sheet that it makes. Above each stands its text. Assumes nothing.
+use Rattle.std.specs.Prelude.{Option, Some, None, Result, Ok, Err}
+use Rattle.refusals.specs.declared.Refusal.{Refusal}
 use Prim.Native.Nat.{ℕ, zero, suc}
 use mathlib.Core.Path.{◌≡◌, refl}
 use mathlib.Core.List.{List, [], ◌∷◌, ◌++◌, map}
@@ -12,9 +14,8 @@ use Rattle.sheet.specs.Reading.{contract_verdict, read_verdict, read_of}
 use Rattle.sheet.specs.Asking.{rows_in, rows_before}
 use Rattle.sheet.specs.declared.Counts.{Counts}
 use Rattle.printing.specs.Text.{spell, lines_to}
-use Rattle.text.specs.Faults.{fault_number, earlier}
 use Rattle.text.specs.Fields.{all_digits, worth, parsed_as, parsed, owed_as, owed_in}
-use Rattle.text.specs.Lines.{cut, over, same, word_of, named, numbered, owing, step, read_line, line_fault}
+use Rattle.text.specs.Lines.{cut, over, word_of, named, numbered, owing, step, read_line, line_fault}
 use Rattle.text.specs.Written.{joined, row_text}
 use Rattle.text.specs.declared.Fault.{Fault}
 use Rattle.writing.specs.Numbers.{Numbers, numbers}
@@ -24,7 +25,7 @@ use Rattle.typing.specs.Rows.{wants, sheet_fault, counted_in, scan_row, scan_lin
 use Rattle.typing.specs.Text.{word_for, row_typed, sheet_text, text_of}
 use Rattle.typing.specs.Made.{line_from, line_of_row, refused_line, made}
 use Rattle.typing.specs.declared.Scan.{Scan}
-use Rattle.typing.specs.declared.Made.{Made}
+use Rattle.typing.specs.declared.Unmade.{Unmade}
 
 -- every separator, CR LF and LF, a comment, a blank line, sections in any order, leading zeros, no line end at the end:
 --     # March\r\ncontract;0;1;1;0050;7\r\nagent\t2\r\n\r\nplant, 0, 1, 3, 20, 9\nagent 1\nboundary  1,0 ;400\t0
@@ -122,15 +123,15 @@ times (suc n) l = l ++ times n l
 abbrev counts : (agents boundaries plants contracts : ℕ) → Counts
 counts a b p c = record { agents = a; boundaries = b; plants = p; contracts = c }
 
-abbrev scan : (line : ℕ) → Fault → Counts → Scan
+abbrev scan : (line : ℕ) → Option Fault → Counts → Scan
 scan n f c = record { line = n; fault = f; counts = c }
 
 -- lists with room for two agents and a row of each other section, then for less: a line's own fault comes before the room
 pub read_cases : (map (scanned (counts 2 1 1 1)) (whole ∷ plain ∷ pair ∷ [])
-    ≡ (scan 7 Fault.None (counts 2 1 1 1) ∷ scan 6 Fault.None (counts 2 1 1 1) ∷ scan 3 Fault.Few (counts 3 0 0 0) ∷ []))
+    ≡ (scan 7 None (counts 2 1 1 1) ∷ scan 6 None (counts 2 1 1 1) ∷ scan 3 (Some Fault.Few) (counts 3 0 0 0) ∷ []))
     × (map (scanned (counts 1 1 0 1)) (whole ∷ pair ∷ one ∷ [])
-    ≡ (scan 5 Fault.Rows (counts 1 0 1 1) ∷ scan 2 Fault.Rows (counts 2 0 0 0) ∷ scan 2 Fault.None (counts 1 0 0 0) ∷ []))
-unfolding fault_number earlier all_digits worth parsed_as parsed owed_as owed_in cut over same word_of named numbered owing step read_line
+    ≡ (scan 5 (Some Fault.Rows) (counts 1 0 1 1) ∷ scan 2 (Some Fault.Rows) (counts 2 0 0 0) ∷ scan 2 None (counts 1 0 0 0) ∷ []))
+unfolding all_digits worth parsed_as parsed owed_as owed_in cut over word_of named numbered owing step read_line
     line_fault wants sheet_fault counted_in scan_row scan_line scanned pick
 read_cases = (refl, refl)
 
@@ -139,32 +140,38 @@ abbrev typed : Numbers
 typed = numbers (2 ∷ 1 ∷ []) (1 ∷ 0 ∷ 400 ∷ 0 ∷ []) (0 ∷ 1 ∷ 3 ∷ 20 ∷ 9 ∷ []) (0 ∷ 1 ∷ 1 ∷ 50 ∷ 7 ∷ [])
 
 pub number_cases : map numbers_in (whole ∷ plain ∷ []) ≡ (typed ∷ typed ∷ [])
-unfolding fault_number all_digits worth parsed_as parsed owed_as owed_in cut over same word_of named numbered owing step read_line
+unfolding all_digits worth parsed_as parsed owed_as owed_in cut over word_of named numbered owing step read_line
     wants gather_line listed
 number_cases = refl
 
+abbrev wrong : (line : ℕ) → Fault → Result ℕ Unmade
+wrong n f = Err (Unmade.Wrong (record { line = n; fault = f }))
+
+abbrev refused : (line : ℕ) → Refusal → Result ℕ Unmade
+refused n r = Err (Unmade.Refused n r)
+
 -- made in 112 bytes, which is what five rows take; in a byte less; and 64 agents, which are the most
 pub made_cases : (map (λ (t : List ℕ). made t 112) (whole ∷ unknown ∷ stated ∷ short ∷ long ∷ letter ∷ large ∷ comment ∷ pair ∷ [])
-    ≡ (Made.Done 112
-    ∷ Made.Wrong 2 Fault.Word
-    ∷ Made.Wrong 3 Fault.Word
-    ∷ Made.Wrong 2 Fault.Few
-    ∷ Made.Wrong 1 Fault.Many
-    ∷ Made.Wrong 3 Fault.NotANumber
-    ∷ Made.Wrong 2 Fault.TooLarge
-    ∷ Made.Done 32
-    ∷ Made.Wrong 3 Fault.Few
+    ≡ (Ok 112
+    ∷ wrong 2 Fault.Word
+    ∷ wrong 3 Fault.Word
+    ∷ wrong 2 Fault.Few
+    ∷ wrong 1 Fault.Many
+    ∷ wrong 3 Fault.NotANumber
+    ∷ wrong 2 Fault.TooLarge
+    ∷ Ok 32
+    ∷ wrong 3 Fault.Few
     ∷ []))
     × (map (λ (t : List ℕ). made t 112) (unlisted ∷ agent_first ∷ overrun ∷ seller ∷ [])
-    ≡ (Made.Refused 3 (refusal 4 1)
-    ∷ Made.Refused 2 (refusal 3 0)
-    ∷ Made.Refused 2 (refusal 5 0)
-    ∷ Made.Refused 4 (refusal 6 1)
+    ≡ (refused 3 (refusal 4 1)
+    ∷ refused 2 (refusal 3 0)
+    ∷ refused 2 (refusal 5 0)
+    ∷ refused 4 (refusal 6 1)
     ∷ []))
-    × (made whole 111 ≡ Made.Refused 0 (refusal 11 0))
-    × (made (times 64 one) 1056 ≡ Made.Done 1056)
-    × (made (times 65 one) 1056 ≡ Made.Wrong 65 Fault.Rows)
-unfolding fault_number earlier all_digits worth parsed_as parsed owed_as owed_in cut over same word_of named numbered owing step read_line
+    × (made whole 111 ≡ refused 0 (refusal 11 0))
+    × (made (times 64 one) 1056 ≡ Ok 1056)
+    × (made (times 65 one) 1056 ≡ wrong 65 Fault.Rows)
+unfolding all_digits worth parsed_as parsed owed_as owed_in cut over word_of named numbered owing step read_line
     line_fault wants sheet_fault counted_in scan_row scan_line scanned gather_line listed pick first_bad rows_in agent_listed
     boundary_listed plant_listed contract_listed row_listed section_listed write_verdict line_from line_of_row refused_line made
 made_cases = (refl, refl, refl, refl, refl)

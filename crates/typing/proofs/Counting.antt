@@ -1,5 +1,6 @@
 -- Where no line is wrong, a section's numbers are as many as its rows want, and its rows are no more than there is room for.
 -- Assumes nothing.
+use Rattle.std.specs.Prelude.{Some, None, is_some}
 use Prim.Native.Nat.{ℕ, ◌+◌, ◌*◌, ◌≤◌}
 use mathlib.Core.Path.{◌≡◌, refl, ap, sym, ◌∙◌}
 use mathlib.Core.Bool.{Bool, true, false, cond, true≢false}
@@ -12,63 +13,54 @@ use borrow.Author.Tests.{leb-true, le-leb}
 use Rattle.sums.specs.Sums.{pick}
 use Rattle.sums.proofs.Tests.{clash, all_true}
 use Rattle.sheet.specs.declared.Counts.{Counts}
-use Rattle.text.specs.Faults.{fault_number, found, earlier}
 use Rattle.text.specs.Lines.{lines, over, read_line}
 use Rattle.text.specs.declared.Fault.{Fault}
 use Rattle.text.specs.declared.Line.{Line}
+use Rattle.text.proofs.Faults.{later_right}
 use Rattle.typing.specs.Rows.{wants, sheet_fault, counted_in, within_rooms, scan_row, scan_line, unscanned, scanned, gather_line, listed}
 use Rattle.typing.specs.declared.Scan.{Scan}
 use Rattle.typing.proofs.Gathering.{row_long}
 
-later_fine : (a b : Fault) → found (earlier a b) ≡ false → found b ≡ false
-unfolding earlier
-later_fine a b e = go (found a) refl e
-  where
-    go : (t : Bool) → found a ≡ t → found (cond t a b) ≡ false → found b ≡ false
-    go true p q = absurd (clash (found a) p q)
-    go false p q = q
-
-rows_fine : (t : Bool) → found (cond t Fault.None Fault.Rows) ≡ false → t ≡ true
-unfolding fault_number
+rows_fine : (t : Bool) → is_some (cond t None (Some Fault.Rows)) ≡ false → t ≡ true
 rows_fine true e = refl
 rows_fine false e = absurd (true≢false e)
 
 -- a text that is read with a fault behind it keeps the fault
 module _ (m : Counts) where
-  frozen : (j : Scan) (ls : List (List ℕ)) → found j.fault ≡ true → over (scan_line m) j ls ≡ j
+  frozen : (j : Scan) (ls : List (List ℕ)) → is_some j.fault ≡ true → over (scan_line m) j ls ≡ j
   unfolding over scan_line
   frozen j [] h = refl
   frozen j (x ∷ xs) h = rw h (frozen j xs h)
 
-  goes : (j : Scan) (x : List ℕ) → found j.fault ≡ false → scan_line m j x ≡ scan_row m j (read_line x)
+  goes : (j : Scan) (x : List ℕ) → is_some j.fault ≡ false → scan_line m j x ≡ scan_row m j (read_line x)
   unfolding scan_line
   goes j x h = rw h
 
   -- so no line on the way was wrong
-  was_fine : (j : Scan) (ls : List (List ℕ)) → found (over (scan_line m) j ls).fault ≡ false → found j.fault ≡ false
-  was_fine j ls e = go (found j.fault) refl
+  was_fine : (j : Scan) (ls : List (List ℕ)) → is_some (over (scan_line m) j ls).fault ≡ false → is_some j.fault ≡ false
+  was_fine j ls e = go (is_some j.fault) refl
     where
-      go : (t : Bool) → found j.fault ≡ t → found j.fault ≡ false
-      go true p = absurd (clash (found j.fault) p (ap (λ (k : Scan). found k.fault) (sym (frozen j ls p)) ∙ e))
+      go : (t : Bool) → is_some j.fault ≡ t → is_some j.fault ≡ false
+      go true p = absurd (clash (is_some j.fault) p (ap (λ (k : Scan). is_some k.fault) (sym (frozen j ls p)) ∙ e))
       go false p = p
 
-  row_within : (j : Scan) (l : Line) → found (scan_row m j l).fault ≡ false → within_rooms (scan_row m j l).counts m ≡ true
+  row_within : (j : Scan) (l : Line) → is_some (scan_row m j l).fault ≡ false → within_rooms (scan_row m j l).counts m ≡ true
   unfolding scan_row
   row_within j l q =
       rows_fine (within_rooms (counted_in j.counts l.word) m)
-      (later_fine (sheet_fault l) (cond (within_rooms (counted_in j.counts l.word) m) Fault.None Fault.Rows) q)
+      (later_right (sheet_fault l) (cond (within_rooms (counted_in j.counts l.word) m) None (Some Fault.Rows)) q)
 
-  over_within : (j : Scan) (ls : List (List ℕ)) → within_rooms j.counts m ≡ true → found (over (scan_line m) j ls).fault ≡ false
+  over_within : (j : Scan) (ls : List (List ℕ)) → within_rooms j.counts m ≡ true → is_some (over (scan_line m) j ls).fault ≡ false
       → within_rooms (over (scan_line m) j ls).counts m ≡ true
   unfolding over
   over_within j [] h e = h
   over_within j (x ∷ xs) h e =
-      let f : found j.fault ≡ false = was_fine j (x ∷ xs) e in
-      let g : found (scan_line m j x).fault ≡ false = was_fine (scan_line m j x) xs e in
+      let f : is_some j.fault ≡ false = was_fine j (x ∷ xs) e in
+      let g : is_some (scan_line m j x).fault ≡ false = was_fine (scan_line m j x) xs e in
       let i = goes j x f in
       let w : within_rooms (scan_line m j x).counts m ≡ true =
       ap (λ (k : Scan). within_rooms k.counts m) i
-      ∙ row_within j (read_line x) (ap (λ (k : Scan). found k.fault) (sym i) ∙ g) in
+      ∙ row_within j (read_line x) (ap (λ (k : Scan). is_some k.fault) (sym i) ∙ g) in
       over_within (scan_line m j x) xs w e
 
   -- a section: its number, its count, and what a row more adds
@@ -93,7 +85,7 @@ module _ (m : Counts) where
         ∙ ap (λ (n : ℕ). wants k * n) (sym (more j.counts (read_line x).word))
 
     over_counts : (j : Scan) (ns : List ℕ) (ls : List (List ℕ)) → length ns ≡ wants k * count j.counts
-        → found (over (scan_line m) j ls).fault ≡ false
+        → is_some (over (scan_line m) j ls).fault ≡ false
         → length (over (gather_line k) ns ls) ≡ wants k * count (over (scan_line m) j ls).counts
     unfolding over
     over_counts j ns [] e f = e
@@ -102,7 +94,7 @@ module _ (m : Counts) where
         over_counts (scan_line m j x) (gather_line k ns x) xs
         (row_counts j ns x e ∙ ap (λ (l : Scan). wants k * count l.counts) (sym i)) f
 
-    pub long_listed : (text : List ℕ) → count unscanned.counts ≡ 0 → found (scanned m text).fault ≡ false
+    pub long_listed : (text : List ℕ) → count unscanned.counts ≡ 0 → is_some (scanned m text).fault ≡ false
         → length (listed k text) ≡ wants k * count (scanned m text).counts
     unfolding scanned listed
     long_listed text z f = over_counts unscanned [] (lines text) (sym (ap (λ (n : ℕ). wants k * n) z ∙ mul-zero (wants k))) f
@@ -118,7 +110,7 @@ pub record Fits (m : Counts) (text : List ℕ) : Type 0 where
   pub few_plants : (scanned m text).counts.plants ≤ m.plants
   pub few_contracts : (scanned m text).counts.contracts ≤ m.contracts
 
-scanned_within : (m : Counts) (text : List ℕ) → found (scanned m text).fault ≡ false → within_rooms (scanned m text).counts m ≡ true
+scanned_within : (m : Counts) (text : List ℕ) → is_some (scanned m text).fault ≡ false → within_rooms (scanned m text).counts m ≡ true
 unfolding scanned
 scanned_within m text f = over_within m unscanned (lines text) none f
   where
@@ -131,7 +123,7 @@ scanned_within m text f = over_within m unscanned (lines text) none f
           le-leb 0 m.contracts (omega arith),
         )
 
-pub fits : (m : Counts) (text : List ℕ) → found (scanned m text).fault ≡ false → Fits m text
+pub fits : (m : Counts) (text : List ℕ) → is_some (scanned m text).fault ≡ false → Fits m text
 unfolding wants counted_in
 fits m text f =
     let c = (scanned m text).counts in

@@ -1,4 +1,5 @@
 -- What reading promises, from its parts. Assumes nothing.
+use Rattle.std.specs.Prelude.{is_some}
 use Prim.Native.Nat.{ℕ}
 use mathlib.Core.Path.{◌≡◌}
 use mathlib.Core.Bool.{true, false}
@@ -7,23 +8,22 @@ use lib.ListN.{length}
 use Rattle.sums.specs.Lists.{at, Filled}
 use Rattle.sums.specs.Sums.{pick}
 use Rattle.sums.proofs.Fill.{filled_none, filled_count}
-use Rattle.text.specs.Faults.{found}
 use Rattle.writing.specs.Numbers.{Numbers, counts_in}
 use Rattle.typing.specs.Rows.{scanned, listed}
 use Rattle.typing.specs.Read.{cells_of, ReadInto}
 use Rattle.typing.specs.declared.Scan.{Scan}
 
-pub all_cells_lem : (r : Scan) (l : List ℕ) → found r.fault ≡ false → length l ≡ cells_of r l
+pub all_cells_lem : (r : Scan) (l : List ℕ) → is_some r.fault ≡ false → length l ≡ cells_of r l
 unfolding pick
 all_cells_lem r l e = rw e
 
-no_cells : (r : Scan) (l : List ℕ) → found r.fault ≡ true → 0 ≡ cells_of r l
+no_cells : (r : Scan) (l : List ℕ) → is_some r.fault ≡ true → 0 ≡ cells_of r l
 unfolding pick
 no_cells r l e = rw e
 
 module _ (text : List ℕ) (before : Numbers) (r : Scan) (e : r ≡ scanned (counts_in before) text) where
   -- a line is wrong
-  pub wrong_kept : found r.fault ≡ true → ReadInto text before r before
+  pub wrong_kept : is_some r.fault ≡ true → ReadInto text before r before
   wrong_kept f =
       record {
         answer = e;
@@ -34,7 +34,7 @@ module _ (text : List ℕ) (before : Numbers) (r : Scan) (e : r ≡ scanned (cou
       }
 
   -- no line is
-  pub all_read : (after : Numbers) → found r.fault ≡ false
+  pub all_read : (after : Numbers) → is_some r.fault ≡ false
       → Filled 0 before.agents after.agents (length (listed 1 text)) (at (listed 1 text))
       → Filled 0 before.boundaries after.boundaries (length (listed 2 text)) (at (listed 2 text))
       → Filled 0 before.plants after.plants (length (listed 3 text)) (at (listed 3 text))

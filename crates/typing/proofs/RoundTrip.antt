@@ -1,5 +1,7 @@
 -- The text of an accepted sheet: no line of it is wrong, since the sheet's counts are within their limits, and its numbers are the
 -- sheet's, section by section. Assumes nothing.
+use Rattle.std.specs.Prelude.{is_some}
+use Rattle.std.specs.Prelude.{Ok}
 use Prim.Native.Nat.{ℕ, zero, suc, ◌+◌, ◌*◌, ◌/◌, ◌%◌, ◌≤◌, ◌<◌}
 use mathlib.Core.Path.{◌≡◌, refl, ap, sym, ◌∙◌}
 use mathlib.Core.Bool.{true, false}
@@ -16,9 +18,7 @@ use Rattle.octets.proofs.Trip.{Bytes}
 use Rattle.sheet.specs.Reading.{read_of}
 use Rattle.sheet.specs.Asking.{agent_at, boundary_at, plant_at, contract_at, rows_in, rows_before}
 use Rattle.sheet.specs.declared.Counts.{Counts}
-use Rattle.sheet.specs.declared.Reading.{Reading}
 use Rattle.sheet.proofs.Accepted.{Few}
-use Rattle.text.specs.Faults.{fault_number, found, earlier}
 use Rattle.text.specs.Lines.{cut, lines, over, step, read_line, line_fault}
 use Rattle.writing.specs.Numbers.{numbers, numbers_of, boundary_number, plant_number, contract_number}
 use Rattle.typing.specs.Rows.{sheet_fault, counted_in, within_rooms, scan_row, scan_line, unscanned, scanned, gather_line}
@@ -44,7 +44,7 @@ within_of c m a b p k =
 
 -- what follows the last row is an empty line
 empty_line_lem : (read_line []).word ≡ 0
-unfolding read_line over step cut fault_number
+unfolding read_line over step cut
 empty_line_lem = refl
 
 gather_end : (k : ℕ) → (0 ≡ k → ⊥) → (ns : List ℕ) → over (gather_line k) ns (lines []) ≡ ns
@@ -54,8 +54,8 @@ gather_end k h ns = gather_skip k ns [] (λ e. h (sym empty_line_lem ∙ e))
 scan_end : (m : Counts) (j : Scan) (d : Counts)
     → Going j d
     → within_rooms d m ≡ true
-    → found (over (scan_line m) j (lines [])).fault ≡ false
-unfolding over cut scan_line scan_row sheet_fault line_fault earlier read_line step counted_in pick fault_number
+    → is_some (over (scan_line m) j (lines [])).fault ≡ false
+unfolding over cut scan_line scan_row sheet_fault line_fault read_line step counted_in pick
 scan_end m j d g h =
     let a : d.agents + 0 ≡ d.agents = omega arith in
     let b : d.boundaries + 0 ≡ d.boundaries = omega arith in
@@ -116,7 +116,7 @@ module _ (s : List ℕ) (c : Counts) where
       rows_listed 5 (row_of_sheet s c 4) (λ i. refl) (λ q j. contract_number (contract_at s c q) j) n
       (λ q j l. contract_at_lem (contract_at s c q) j l)
 
-module _ (s : List ℕ) (by : Bytes s) (c : Counts) (e : read_of s ≡ Reading.Accepted c) where
+module _ (s : List ℕ) (by : Bytes s) (c : Counts) (e : read_of s ≡ Ok c) where
   few : Few c
   few = few_rows_lem s c e
 
@@ -134,7 +134,7 @@ module _ (s : List ℕ) (by : Bytes s) (c : Counts) (e : read_of s ≡ Reading.A
   rows4 = added 4 c.contracts rows3
 
   abbrev Right : Scan → List ℕ → Type 0
-  Right j rest = found (over (scan_line sheet_rooms) j (lines rest)).fault ≡ false
+  Right j rest = is_some (over (scan_line sheet_rooms) j (lines rest)).fault ≡ false
 
   right5 : (j : Scan) → Going j rows4 → Right j []
   unfolding pick
@@ -172,7 +172,7 @@ module _ (s : List ℕ) (by : Bytes s) (c : Counts) (e : read_of s ≡ Reading.A
       right3
 
   -- no line of the text is wrong
-  pub text_right : found (scanned sheet_rooms (sheet_text s c)).fault ≡ false
+  pub text_right : is_some (scanned sheet_rooms (sheet_text s c)).fault ≡ false
   unfolding scanned sheet_text pick rows_in
   text_right =
       let f = few in

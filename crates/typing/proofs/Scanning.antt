@@ -1,4 +1,5 @@
 -- Laws of a text that is scanned line by line. Assumes nothing.
+use Rattle.std.specs.Prelude.{is_some}
 use Prim.Native.Nat.{ℕ, ◌+◌, ◌≤◌}
 use mathlib.Core.Bool.{Bool, true, false, cond}
 use mathlib.Core.List.{List}
@@ -6,7 +7,6 @@ use native.Mathlib.Omega.{arith}
 use lib.Dec.{eqb}
 use Rattle.sums.proofs.Picks.{pick_le}
 use Rattle.sheet.specs.declared.Counts.{Counts}
-use Rattle.text.specs.Faults.{found}
 use Rattle.text.specs.Lines.{read_line}
 use Rattle.text.specs.declared.Line.{Line}
 use Rattle.typing.specs.Rows.{counted_in, scan_row, scan_line}
@@ -30,8 +30,8 @@ row_sparse m j l h =
 -- no section has more rows than there are lines, and a line counts once
 pub line_sparse : (m : Counts) (j : Scan) (s : List ℕ) → Sparse j → Sparse (scan_line m j s)
 unfolding scan_line
-line_sparse m j s h = either Sparse (found j.fault) j (scan_row m j (read_line s)) h (row_sparse m j (read_line s) h)
+line_sparse m j s h = either Sparse (is_some j.fault) j (scan_row m j (read_line s)) h (row_sparse m j (read_line s) h)
 
 pub line_once : (m : Counts) (j : Scan) (s : List ℕ) → (scan_line m j s).line ≤ j.line + 1
 unfolding scan_line scan_row
-line_once m j s = either (λ k. k.line ≤ j.line + 1) (found j.fault) j (scan_row m j (read_line s)) (omega arith) (omega arith)
+line_once m j s = either (λ k. k.line ≤ j.line + 1) (is_some j.fault) j (scan_row m j (read_line s)) (omega arith) (omega arith)

@@ -1,5 +1,7 @@
 -- How long a sheet's text is: a word has at most 8 bytes, each of at most five numbers 21 with its space, the line end is one, so a row
 -- has at most 114 and 72,960 bytes have room for the text of every sheet. Assumes nothing.
+use Rattle.std.specs.Prelude.{Result, Ok}
+use Rattle.refusals.specs.declared.Refusal.{Refusal}
 use Prim.Native.Nat.{ℕ, zero, suc, ◌+◌, ◌*◌, ◌≤◌}
 use mathlib.Core.Path.{◌≡◌, ◌∙◌}
 use mathlib.Core.List.{List, [], ◌∷◌}
@@ -10,10 +12,8 @@ use Rattle.octets.specs.Bytes.{words_at}
 use Rattle.sheet.specs.Reading.{read_of, trailer_start}
 use Rattle.sheet.specs.Asking.{rows_in, rows_before}
 use Rattle.sheet.specs.declared.Counts.{Counts}
-use Rattle.sheet.specs.declared.Reading.{Reading}
 use Rattle.printing.specs.Text.{lines_to}
 use Rattle.printing.specs.Page.{Prints}
-use Rattle.printing.specs.declared.Printed.{Printed}
 use Rattle.printing.proofs.Length.{spell_most}
 use Rattle.text.specs.Written.{joined, row_text}
 use Rattle.typing.specs.Text.{word_for, row_of_sheet, section_text, sheet_text, text_verdict, text_of}
@@ -56,9 +56,9 @@ module _ (s : List ℕ) (c : Counts) where
       omega (arith, p1, p2, p3, p4)
 
 -- ROOM. Given 72,960 bytes, `texts::write` never refuses an accepted sheet.
-pub text_given : (s before after : List ℕ) (c : Counts) (r : Printed) → read_of s ≡ Reading.Accepted c → text_room ≤ length before
+pub text_given : (s before after : List ℕ) (c : Counts) (r : Result ℕ Refusal) → read_of s ≡ Ok c → text_room ≤ length before
     → Prints (text_verdict (read_of s) s (length before)) (text_of (read_of s) s) before r after
-    → r ≡ Printed.Done (length (sheet_text s c))
+    → r ≡ Ok (length (sheet_text s c))
 text_given s before after c r e h p =
     let f = few_rows_lem s c e in
     let m = text_most s c in

@@ -1,15 +1,15 @@
 -- What reading the text of a sheet into four lent lists promises. Assumes nothing.
+use Rattle.std.specs.Prelude.{is_some}
 use Rattle.std.specs.Prelude.{ℕ, ◌≡◌, not, List, length}
 use Rattle.sums.specs.Lists.{at, Filled}
 use Rattle.sums.specs.Sums.{pick}
-use Rattle.text.specs.Faults.{found}
 use Rattle.writing.specs.Numbers.{Numbers, counts_in}
 use Rattle.typing.specs.Rows.{scanned, listed}
 use Rattle.typing.specs.declared.Scan.{Scan}
 
 -- how many cells of a list are written: all of these, or none where a line is wrong
 abbrev pub cells_of : Scan → List ℕ → ℕ
-cells_of j l = pick (not (found j.fault)) (length l)
+cells_of j l = pick (not (is_some j.fault)) (length l)
 
 -- the lists have room for as many rows as they have whole rows. What is past the numbers keeps its values
 pub record ReadInto (text : List ℕ) (before : Numbers) (r : Scan) (after : Numbers) : Type 0 where

@@ -1,12 +1,13 @@
 -- A sheet as text: a line a row, `agent KIND`, `boundary AGENT FACTOR IMPORT EXPORT`, `plant AGENT INFLEXIBLE MUST-RUN PRICE
 -- AVAILABILITY`, `contract SELLER BUYER KIND PRICE QUANTITY`. Sections may come in any order; the rows of each number themselves in
 -- the order of their lines. Assumes nothing.
+use Rattle.std.specs.Prelude.{Option, Some, None, is_some}
+use Rattle.std.specs.Option.{option_or}
 use Rattle.std.specs.Prelude.{ℕ, ◌+◌, Bool, cond, ◌&&◌, List, [], ◌++◌, take, leb, eqb}
 use Rattle.sums.specs.Sums.{pick}
 use Rattle.limits.specs.Limits.{most_agents, most_boundaries, most_plants, most_contracts}
 use Rattle.sheet.specs.Asking.{by_section}
 use Rattle.sheet.specs.declared.Counts.{Counts}
-use Rattle.text.specs.Faults.{found, earlier}
 use Rattle.text.specs.Lines.{lines, over, read_line, line_fault}
 use Rattle.text.specs.declared.Fault.{Fault}
 use Rattle.text.specs.declared.Line.{Line}
@@ -18,7 +19,7 @@ unfoldable pub wants : ℕ → ℕ
 wants k = by_section k 1 4 5 5 0
 
 -- what is wrong with a line by itself. A word of statements is not known here
-unfoldable pub sheet_fault : Line → Fault
+unfoldable pub sheet_fault : Line → Option Fault
 sheet_fault l = line_fault (leb l.word 4) (wants l.word) l
 
 -- one row more of section k
@@ -46,17 +47,17 @@ unfoldable pub scan_row : (rooms : Counts) → Scan → Line → Scan
 scan_row m j l =
     record {
       line = j.line + 1;
-      fault = earlier (sheet_fault l) (cond (within_rooms (counted_in j.counts l.word) m) Fault.None Fault.Rows);
+      fault = option_or (sheet_fault l) (cond (within_rooms (counted_in j.counts l.word) m) None (Some Fault.Rows));
       counts = counted_in j.counts l.word;
     }
 
 -- the first line that is wrong ends it
 unfoldable pub scan_line : (rooms : Counts) → Scan → List ℕ → Scan
-scan_line m j bytes = cond (found j.fault) j (scan_row m j (read_line bytes))
+scan_line m j bytes = cond (is_some j.fault) j (scan_row m j (read_line bytes))
 
 abbrev pub unscanned : Scan
 unscanned =
-    record { line = 0; fault = Fault.None; counts = record { agents = 0; boundaries = 0; plants = 0; contracts = 0 } }
+    record { line = 0; fault = None; counts = record { agents = 0; boundaries = 0; plants = 0; contracts = 0 } }
 
 -- a text: how many rows of each section it has, or its first line that is wrong and how
 unfoldable pub scanned : (rooms : Counts) → List ℕ → Scan

@@ -1,5 +1,6 @@
 -- How far a text may be when a line more is read, and what is put into a scratch when one is written: no part of the meaning.
 -- Assumes nothing.
+use Rattle.std.specs.Prelude.{is_some}
 use Rattle.std.specs.Prelude.{ℕ, ◌+◌, ◌*◌, ◌≤◌, ◌<◌, ◌≡◌, false, List, length, take, drop}
 use Rattle.limits.specs.Limits.{most_agents, most_boundaries, most_plants, most_contracts}
 use Rattle.octets.specs.Bytes.{words_at}
@@ -8,7 +9,6 @@ use Rattle.sheet.specs.declared.Counts.{Counts}
 use Rattle.printing.specs.Text.{lines_to}
 use Rattle.printing.specs.Put.{PutInRoom}
 use Rattle.text.specs.Written.{row_text}
-use Rattle.text.specs.Faults.{found}
 use Rattle.writing.specs.Numbers.{Numbers}
 use Rattle.typing.specs.Rows.{sheet_rooms, scanned, listed}
 use Rattle.typing.specs.Text.{word_for, row_typed}
@@ -44,7 +44,7 @@ RowsPut k sheet start n before after at r =
 
 -- no line of a text is wrong, and these lists, of at least so many rows, have its numbers at their fronts
 pub record Fronts (text : List ℕ) (c : Counts) (n : Numbers) : Type 0 where
-  pub fine : found (scanned sheet_rooms text).fault ≡ false
+  pub fine : is_some (scanned sheet_rooms text).fault ≡ false
   pub few_agents : c.agents ≤ length n.agents
   pub few_boundaries : 4 * c.boundaries ≤ length n.boundaries
   pub few_plants : 5 * c.plants ≤ length n.plants

@@ -1,7 +1,9 @@
 -- The text of an accepted sheet: its sections in their order, a line a row. Assumes nothing.
+use Rattle.std.specs.Prelude.{Result, Ok, Err}
+use Rattle.refusals.specs.declared.Refusal.{Refusal}
 use Rattle.std.specs.Prelude.{ℕ, ◌+◌, List, [], ◌∷◌, length, leb}
 use Rattle.refusals.specs.Refusals.{no_room, refused_unless}
-use Rattle.refusals.specs.declared.Verdict.{Verdict}
+use Rattle.refusals.specs.Refusals.{Verdict}
 use Rattle.octets.specs.Bytes.{words_at}
 use Rattle.rows.specs.Rows.{agent_of, boundary_of, plant_of, contract_of}
 use Rattle.octets.specs.declared.Words.{Words}
@@ -10,7 +12,6 @@ use Rattle.limits.specs.declared.Plant.{Plant}
 use Rattle.limits.specs.declared.Contract.{Contract}
 use Rattle.sheet.specs.Asking.{by_section, rows_in, rows_before}
 use Rattle.sheet.specs.declared.Counts.{Counts}
-use Rattle.sheet.specs.declared.Reading.{Reading}
 use Rattle.printing.specs.Text.{lines_to}
 use Rattle.text.specs.Lines.{agent_word, boundary_word, plant_word, contract_word}
 use Rattle.text.specs.Written.{row_text}
@@ -44,13 +45,13 @@ unfoldable pub sheet_text : List ℕ → Counts → List ℕ
 sheet_text s c = section_text s c 1 (section_text s c 2 (section_text s c 3 (section_text s c 4 [])))
 
 -- ---- writing it into a lent buffer: reading's refusals first, then 11
-abbrev pub text_of : Reading → List ℕ → List ℕ
-text_of (Reading.Accepted c) s = sheet_text s c
-text_of (Reading.Refused r) s = []
+abbrev pub text_of : Result Counts Refusal → List ℕ → List ℕ
+text_of (Ok c) s = sheet_text s c
+text_of (Err r) s = []
 
 abbrev pub fit_verdict : (text : List ℕ) (room : ℕ) → Verdict
 fit_verdict text room = refused_unless (leb (length text) room) no_room 0
 
-abbrev pub text_verdict : Reading → List ℕ → (room : ℕ) → Verdict
-text_verdict (Reading.Accepted c) s room = fit_verdict (sheet_text s c) room
-text_verdict (Reading.Refused r) s room = Verdict.Refused r
+abbrev pub text_verdict : Result Counts Refusal → List ℕ → (room : ℕ) → Verdict
+text_verdict (Ok c) s room = fit_verdict (sheet_text s c) room
+text_verdict (Err r) s room = Err r

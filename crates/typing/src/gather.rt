@@ -12,10 +12,7 @@ fn put_numbers(out: &mut [u32], k: usize, l: Line, n: usize)
     requires { (n ≤ 7) × (k + n ≤ length out.old) }
     ensures { out.new ≡ paste out.old k l.numbers n }
 {
-    let a = l.numbers;
-    for i in 0..n {
-        out[k + i] = a[i];
-    }
+    out[k..k + n].copy_from_slice(&l.numbers[..n]);
 }
 
 // A line's numbers, if it is of the section, behind the k that are there.
@@ -41,10 +38,7 @@ pub(crate) fn gather(s: &[u8], out: &mut [u32], section: u32)
         (at (listed section s.now)) }
 {
     let mut k: usize = 0;
-    let mut i: usize = 0;
-    while i <= s.len() {
-        let e = text::line_end(s, i);
-        k = gather_line(&s[i..e], out, k, section);
-        i = e + 1;
+    for line in s.split(|b| *b == b'\n') {
+        k = gather_line(line, out, k, section);
     }
 }

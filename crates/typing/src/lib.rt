@@ -15,23 +15,21 @@ ghost use Rattle.typing.specs.Steps.{Fronts};
 use limits::{Agent, Boundary, Contract, Plant};
 use refusals::Refusal;
 use sheet::Counts;
-use text::Fault;
-use writing::Writing;
+use text::{Fault, WrongLine};
 
 // How far a text was read: its lines up to the first that is wrong, what is wrong with that one, and the rows of each section.
 #[derive(Clone, Copy)]
 pub struct Scan {
     pub line: usize,
-    pub fault: Fault,
+    pub fault: Option<Fault>,
     pub counts: Counts,
 }
 
-// What making a sheet from its text answers: how long it is, or the line that is wrong and how, or why writing refuses and the line
-// of the row that it speaks of, 0 where it speaks of none.
+// Why a text makes no sheet: a line is wrong, or writing refuses; that is told with the line of the row that it speaks of, 0 where it
+// speaks of none.
 #[derive(Clone, Copy)]
-pub enum Made {
-    Done(usize),
-    Wrong(usize, Fault),
+pub enum Unmade {
+    Wrong(WrongLine),
     Refused(usize, Refusal),
 }
 
@@ -54,25 +52,21 @@ pub fn read(
         contracts: contracts.len() / 5,
     };
     let r = scans::scan(text, rooms);
-    let f = r.fault;
-    if text::is_found(f) {
+    if r.fault.is_some() {
         return r;
     }
-    gather::gather(text, agents, 1);
-    gather::gather(text, boundaries, 2);
-    gather::gather(text, plants, 3);
-    gather::gather(text, contracts, 4);
+    gather::gather(text, agents, Agent::SECTION);
+    gather::gather(text, boundaries, Boundary::SECTION);
+    gather::gather(text, plants, Plant::SECTION);
+    gather::gather(text, contracts, Contract::SECTION);
     r
 }
 
 // What writing answered, with the line of the row that it refused.
-fn told(w: Writing, text: &[u8]) -> Made
+fn told(w: Result<usize, Refusal>, text: &[u8]) -> Result<usize, Unmade>
     ensures { result ≡ made_by w text.now }
 {
-    match w {
-        Writing::Done(n) => Made::Done(n),
-        Writing::Refused(why) => Made::Refused(places::refused_line(text, why), why),
-    }
+    w.map_err(|why| Unmade::Refused(places::refused_line(text, why), why))
 }
 
 // The sheet of a text whose numbers stand at the fronts of four lists.
@@ -84,7 +78,7 @@ fn write_fronts(
     plants: &[u32],
     contracts: &[u32],
     out: &mut [u8],
-) -> Made
+) -> Result<usize, Unmade>
     requires { Fronts text.now c (numbers agents.now boundaries.now plants.now contracts.now) }
     ensures { MadeInto text.now out.old result out.new }
 {
@@ -98,8 +92,8 @@ fn write_fronts(
     told(w, text)
 }
 
-// The sheet of a text at the front of a buffer, whose bytes past the sheet's length keep their values.
-pub fn make(text: &[u8], out: &mut [u8]) -> Made
+// The sheet of a text at the front of a buffer, and how long it is. The bytes past its length keep their values.
+pub fn make(text: &[u8], out: &mut [u8]) -> Result<usize, Unmade>
     ensures { MadeInto text.now out.old result out.new }
 {
     let mut agents = [0u32; Agent::MOST];
@@ -113,9 +107,11 @@ pub fn make(text: &[u8], out: &mut [u8]) -> Made
         &mut plants,
         &mut contracts,
     );
-    let f = r.fault;
-    if text::is_found(f) {
-        return Made::Wrong(r.line, f);
+    if let Some(fault) = r.fault {
+        return Err(Unmade::Wrong(WrongLine {
+            line: r.line,
+            fault,
+        }));
     }
     write_fronts(
         text,

@@ -2,14 +2,14 @@
 ghost use Rattle.std.specs.Prelude.{◌+◌, ◌≤◌, ◌<◌, ◌≡◌, length, drop};
 ghost use Rattle.printing.specs.Page.{Prints};
 ghost use Rattle.sheet.specs.Reading.{read_of};
-ghost use Rattle.sheet.specs.declared.Reading.{Reading};
 ghost use Rattle.typing.specs.Text.{sheet_text, fit_verdict, text_of, text_verdict};
 ghost use Rattle.typing.specs.Steps.{text_room, RowPut, RowsPut};
 
 use limits::{Agent, Boundary, Contract, Plant};
 use octets::Words;
-use printing::{Printed, pen};
-use sheet::{Counts, Reading};
+use printing::pen;
+use refusals::Refusal;
+use sheet::Counts;
 use text::puts;
 
 // The longest row has 8 bytes of its word, 21 of each of five numbers with its space, and the line end.
@@ -62,9 +62,9 @@ fn put_line(s: &mut [u8], at: usize, k: u32, w: Words) -> usize
     ensures { RowPut k w s.old s.new at result }
 {
     match k {
-        1 => put_agent(s, at, w),
-        2 => put_boundary(s, at, w),
-        3 => put_plant(s, at, w),
+        Agent::SECTION => put_agent(s, at, w),
+        Boundary::SECTION => put_boundary(s, at, w),
+        Plant::SECTION => put_plant(s, at, w),
         _ => put_contract(s, at, w),
     }
 }
@@ -75,29 +75,27 @@ fn put_section(s: &mut [u8], at: usize, sheet: &[u8], k: u32, start: usize, n: u
     ensures { RowsPut k sheet.now start n s.old s.new at result }
 {
     let mut i = at;
-    let mut left = n;
-    while left > 0 {
-        left -= 1;
-        i = put_line(s, i, k, octets::row_at(sheet, start + left));
+    for row in (start..start + n).rev() {
+        i = put_line(s, i, k, octets::row_at(sheet, row));
     }
     i
 }
 
 // The text of an accepted sheet with these counts, at the end of a scratch with room for each row that a sheet may have.
 fn put_text(s: &mut [u8], bytes: &[u8], c: Counts) -> usize
-    requires { (read_of bytes.now ≡ Reading.Accepted c) × (length s.old ≡ text_room) }
+    requires { (read_of bytes.now ≡ Ok c) × (length s.old ≡ text_room) }
     ensures { drop result s.new ≡ sheet_text bytes.now c }
 {
     let b = c.agents + c.boundaries;
     let p = b + c.plants;
-    let i = put_section(s, s.len(), bytes, 4, p, c.contracts);
-    let j = put_section(s, i, bytes, 3, b, c.plants);
-    let k = put_section(s, j, bytes, 2, c.agents, c.boundaries);
-    put_section(s, k, bytes, 1, 0, c.agents)
+    let i = put_section(s, s.len(), bytes, Contract::SECTION, p, c.contracts);
+    let j = put_section(s, i, bytes, Plant::SECTION, b, c.plants);
+    let k = put_section(s, j, bytes, Boundary::SECTION, c.agents, c.boundaries);
+    put_section(s, k, bytes, Agent::SECTION, 0, c.agents)
 }
 
-fn give_text(bytes: &[u8], c: Counts, out: &mut [u8]) -> Printed
-    requires { read_of bytes.now ≡ Reading.Accepted c }
+fn give_text(bytes: &[u8], c: Counts, out: &mut [u8]) -> Result<usize, Refusal>
+    requires { read_of bytes.now ≡ Ok c }
     ensures { Prints (fit_verdict (sheet_text bytes.now c) (length out.old))
         (sheet_text bytes.now c) out.old result out.new }
 {
@@ -107,12 +105,10 @@ fn give_text(bytes: &[u8], c: Counts, out: &mut [u8]) -> Printed
 }
 
 // The text of a sheet, put into a lent buffer.
-pub fn write(bytes: &[u8], out: &mut [u8]) -> Printed
+pub fn write(bytes: &[u8], out: &mut [u8]) -> Result<usize, Refusal>
     ensures { Prints (text_verdict (read_of bytes.now) bytes.now (length out.old))
         (text_of (read_of bytes.now) bytes.now) out.old result out.new }
 {
-    match sheet::read(bytes) {
-        Reading::Accepted(c) => give_text(bytes, c, out),
-        Reading::Refused(why) => Printed::Refused(why),
-    }
+    let c = sheet::read(bytes)?;
+    give_text(bytes, c, out)
 }

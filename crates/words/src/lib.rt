@@ -1,7 +1,7 @@
 // The words behind a program's name, and the files that they name.
 #![tactic(auto)]
 
-ghost use Rattle.std.specs.Prelude.{◌≡◌, ◌≤◌, length};
+ghost use Rattle.std.specs.Prelude.{◌≡◌, ◌≤◌, length, Some};
 ghost use Rattle.words.specs.Words.{same_word, spelled_in, with_digit};
 
 use std::env::{Env, FillError};
@@ -10,21 +10,11 @@ use std::io::{Error, ErrorKind, Write};
 use std::rt::Files;
 use std::{fs, io, str};
 
-// What a word spells.
-#[derive(Clone, Copy)]
-pub enum Number {
-    Is(u32),
-    Not,
-}
-
 // Puts word i at the front of the buffer and answers its length: 0 where there is no such word, or where it is longer than the buffer.
 pub fn word<E: Env>(rt: &E, i: usize, buf: &mut [u8]) -> usize
     ensures { result ≤ length buf.new }
 {
-    match rt.arg(i, buf) {
-        Ok(n) => n,
-        Err(_) => 0,
-    }
+    rt.arg(i, buf).unwrap_or(0)
 }
 
 // How many words there are, the program's own name among them.
@@ -41,52 +31,32 @@ pub fn count<E: Env>(rt: &E) -> usize {
 pub fn is_same(a: &[u8], b: &[u8]) -> bool
     ensures { result ≡ same_word a.now b.now }
 {
-    if a.len() != b.len() {
-        return false;
-    }
-    let mut equal = true;
-    let mut k = 0;
-    while k < a.len() {
-        equal = equal & (a[k] == b[k]);
-        k += 1;
-    }
-    equal
+    a == b
 }
 
 // A number with one digit more.
-fn with_digit(value: u32, byte: u8) -> Number
-    ensures { result ≡ with_digit (Number.Is value) byte }
+#[tactic(auto, unfolding(crate::specs::Words::with_digit))]
+fn with_digit(value: u32, byte: u8) -> Option<u32>
+    ensures { result ≡ with_digit (Some value) byte }
 {
-    if byte < 48 {
-        return Number::Not;
+    match byte {
+        b'0'..=b'9' if value <= 99999999 => Some(10 * value + u32::from(byte - b'0')),
+        _ => None,
     }
-    if 57 < byte {
-        return Number::Not;
-    }
-    if 99999999 < value {
-        return Number::Not;
-    }
-    Number::Is(10 * value + (byte - 48) as u32)
 }
 
 // The number that a word of digits spells.
-pub fn number_of(word: &[u8]) -> Number
+pub fn number_of(word: &[u8]) -> Option<u32>
     ensures { result ≡ spelled_in word.now }
 {
-    if word.len() == 0 {
-        return Number::Not;
+    if word.is_empty() {
+        return None;
     }
     let mut value = 0;
-    let mut k = 0;
-    while k < word.len() {
-        let longer = with_digit(value, word[k]);
-        let Number::Is(next) = longer else {
-            return Number::Not;
-        };
-        value = next;
-        k += 1;
+    for &byte in word {
+        value = with_digit(value, byte)?;
     }
-    Number::Is(value)
+    Some(value)
 }
 
 // All bytes, and no less, behind one another in the file, which is closed then. What the system holds back is waited for: it could not be

@@ -1,4 +1,5 @@
 -- What writing has made sure of in lists that it takes, and the way back: lists of which all this holds are taken. Assumes nothing.
+use Rattle.std.specs.Prelude.{Ok}
 use Prim.Native.Nat.{ℕ, zero, suc, ◌*◌, ◌%◌, ◌<◌, ◌≤◌}
 use native.Mathlib.Omega.{arith}
 use mathlib.Core.Path.{◌≡◌}
@@ -9,7 +10,6 @@ use lib.ListN.{length}
 use lib.Dec.{leb, eqb}
 use Rattle.sums.specs.Lists.{at}
 use Rattle.sums.proofs.Tests.{all_true, and_both}
-use Rattle.refusals.specs.declared.Verdict.{Verdict}
 use Rattle.rows.specs.Rows.{agent_good, boundary_good, plant_good, contract_good}
 use Rattle.sheet.specs.Reading.{trailer_start, counts_good, sheet_length}
 use Rattle.sheet.specs.Asking.{rows_in}
@@ -32,7 +32,7 @@ pub record Good (n : Numbers) : Type 0 where
       contract_in n.contracts i in contract_good (at n.agents k.seller) (at n.agents k.buyer) k ≡ true
 
 module _ (n : Numbers) (room : ℕ) where
-  pub fine_good : write_verdict n room ≡ Verdict.Fine → Good n
+  pub fine_good : write_verdict n room ≡ Ok tt → Good n
   unfolding write_verdict section_listed row_listed rows_in agent_listed boundary_listed plant_listed contract_listed
   fine_good e =
       let all = fine_parts (write_checks n room) e in
@@ -46,13 +46,13 @@ module _ (n : Numbers) (room : ℕ) where
             λ i h. fine_test _ _ _ (each_fine (contract_listed n.agents n.contracts) _ i all.1.1.1.1.0 h);
       }
 
-  pub fine_room : write_verdict n room ≡ Verdict.Fine → sheet_length (counts_in n) ≤ room
+  pub fine_room : write_verdict n room ≡ Ok tt → sheet_length (counts_in n) ≤ room
   unfolding write_verdict
   fine_room e =
       let all = fine_parts (write_checks n room) e in
       leb-true _ _ (fine_test (leb (sheet_length (counts_in n)) room) _ _ all.1.1.1.1.1.0)
 
-  pub good_fine : Good n → sheet_length (counts_in n) ≤ room → write_verdict n room ≡ Verdict.Fine
+  pub good_fine : Good n → sheet_length (counts_in n) ≤ room → write_verdict n room ≡ Ok tt
   unfolding write_verdict section_listed row_listed rows_in agent_listed boundary_listed plant_listed contract_listed
   good_fine g h =
       parts_fine (write_checks n room) (

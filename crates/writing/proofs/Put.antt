@@ -2,9 +2,13 @@
 use Prim.Native.Nat.{ℕ, ◌+◌, ◌*◌, ◌/◌, ◌%◌, ◌^◌, ◌<◌, ◌≤◌}
 use native.Mathlib.Omega.{arith}
 use mathlib.Core.Path.{◌≡◌, refl, sym, ◌∙◌}
-use mathlib.Core.List.{List}
-use lib.ListN.{length, set}
-use Rattle.sums.specs.Lists.{Filled}
+use mathlib.Core.List.{List, [], ◌∷◌}
+use lib.ListN.{length, get_or, set, length-set}
+use native.Mathlib.Decide.{dec_lt}
+use lib.Seq.{get_or-set_same, get_or-set_other}
+use borrow.Rule.Slice.PartMut.{put_mid}
+use Rattle.std.proofs.lemmas.List.{places, same_lists, get_or_default}
+use Rattle.sums.specs.Lists.{at, Filled}
 use Rattle.sums.proofs.Fill.{filled_more}
 use Rattle.octets.specs.Bytes.{word, byte_of}
 use Rattle.octets.specs.declared.Words.{Words}
@@ -51,3 +55,24 @@ module _ (d : List ℕ) (f : ℕ → Words) (r : ℕ) where
       (rw b at (number_more _ 2 (16 * r + 8) (omega arith) (omega arith) (omega arith)
       (rw a at (number_more _ 1 (16 * r + 4) (omega arith) (omega arith) (omega arith)
       (number_more e 0 (16 * r) (omega arith) (omega arith) (omega arith) g))))))
+
+-- four bytes copied over their part are the four put one by one
+module _ (d : List ℕ) (k a b c e : ℕ) where
+  -- the length is a variable, so that the list stays as it is written
+  copied : (n : ℕ) → n ≡ 4 → k + n ≤ length d
+      → (ys : List ℕ) → length ys ≡ n → at ys 0 ≡ a → at ys 1 ≡ b → at ys 2 ≡ c → at ys 3 ≡ e
+      → put_mid k n d ys ≡ set (set (set (set d k a) (k + 1) b) (k + 2) c) (k + 3) e
+  copied n q h ys l ea eb ec ee = same_lists _ _ (grind (arith, places, length-set)) (λ i z m. go i z m (dec_lt i k) (dec_lt i (k + n)))
+    where
+      go : (i z : ℕ) → i < length (put_mid k n d ys) → Dec (i < k) → Dec (i < k + n)
+          → get_or (put_mid k n d ys) i z ≡ get_or (set (set (set (set d k a) (k + 1) b) (k + 2) c) (k + 3) e) i z
+      go i z m (yes x) y = grind (arith, places, get_or-set_other)
+      go i z m (no x) (yes y) = grind (arith, places, get_or-set_same, get_or-set_other, get_or_default, length-set)
+      go i z m (no x) (no y) = grind (arith, places, get_or-set_other)
+
+pub number_copied : (d : List ℕ) (k x : ℕ) → k + 4 ≤ length d
+    → put_mid k 4 d (x % 256 ∷ x / 256 % 256 ∷ x / 65536 % 256 ∷ x / 16777216 % 256 ∷ []) ≡ put_number d k x
+unfolding put_number
+number_copied d k x h =
+    copied d k (x % 256) (x / 256 % 256) (x / 65536 % 256) (x / 16777216 % 256) 4 refl h
+    (x % 256 ∷ x / 256 % 256 ∷ x / 65536 % 256 ∷ x / 16777216 % 256 ∷ []) refl refl refl refl refl

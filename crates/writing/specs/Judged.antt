@@ -1,17 +1,19 @@
 -- Document 01, 'When the sheet is turned away': writing gives refusal 2 (a count over its limit, or a list that isn't whole rows),
 -- 3 to 6, then 11; and what it promises of the lent bytes. Assumes nothing.
+use Rattle.std.specs.Prelude.{Result}
+use Rattle.refusals.specs.declared.Refusal.{Refusal}
+use Rattle.std.specs.Prelude.{Ok, Err}
 use Rattle.std.specs.Prelude.{ℕ, ◌%◌, ◌≡◌, Bool, ◌&&◌, List, [], ◌∷◌, length, leb, eqb}
 use Rattle.sums.specs.Lists.{at, Filled}
 use Rattle.refusals.specs.Refusals.{bad_layout, bad_agent, bad_boundary, bad_plant, bad_contract}
 use Rattle.refusals.specs.Refusals.{no_room, refused_unless, first_of, first_bad, cells}
-use Rattle.refusals.specs.declared.Verdict.{Verdict}
+use Rattle.refusals.specs.Refusals.{Verdict}
 use Rattle.octets.specs.Bytes.{byte_of}
 use Rattle.rows.specs.Rows.{agent_good, boundary_good, plant_good, contract_good}
 use Rattle.sheet.specs.Reading.{counts_good, sheet_length}
 use Rattle.sheet.specs.Asking.{by_section, rows_in}
 use Rattle.writing.specs.Numbers.{Numbers, counts_in, agent_in, boundary_in, plant_in, contract_in}
 use Rattle.writing.specs.Words.{sheet_row}
-use Rattle.writing.specs.declared.Writing.{Writing}
 
 -- ---- refusal 2 is given exactly where this is false
 abbrev pub lists_good : Numbers → Bool
@@ -39,7 +41,7 @@ contract_listed kinds l i =
 unfoldable pub row_listed : Numbers → ℕ → ℕ → Verdict
 row_listed n section =
     by_section section (agent_listed n.agents) (boundary_listed n.agents n.boundaries)
-    (plant_listed n.agents n.plants) (contract_listed n.agents n.contracts) (λ i. Verdict.Fine)
+    (plant_listed n.agents n.plants) (contract_listed n.agents n.contracts) (λ i. (Ok tt))
 
 unfoldable pub section_listed : Numbers → ℕ → Verdict
 section_listed n section = first_bad (row_listed n section) 0 (rows_in (counts_in n) section)
@@ -58,12 +60,12 @@ write_checks n room =
 unfoldable pub write_verdict : Numbers → (room : ℕ) → Verdict
 write_verdict n room = first_of (write_checks n room)
 
-abbrev pub writing : Verdict → ℕ → Writing
-writing Verdict.Fine length = Writing.Done length
-writing (Verdict.Refused r) length = Writing.Refused r
+abbrev pub writing : Verdict → ℕ → Result ℕ Refusal
+writing (Ok tt) length = Ok length
+writing (Err r) length = Err r
 
 -- success hands back the sheet's length, which has its bytes; bytes past it keep their values; a refusal writes nothing
-pub record Written (n : Numbers) (before : List ℕ) (r : Writing) (after : List ℕ) : Type 0 where
+pub record Written (n : Numbers) (before : List ℕ) (r : Result ℕ Refusal) (after : List ℕ) : Type 0 where
   pub answer : r ≡ writing (write_verdict n (length before)) (sheet_length (counts_in n))
   pub bytes : Filled 0 before after (cells (write_verdict n (length before)) (sheet_length (counts_in n)))
       (byte_of (sheet_row n))

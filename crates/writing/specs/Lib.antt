@@ -2,3 +2,4 @@ pub mod Numbers
 pub mod Words
 pub mod Judged
 pub mod Put
+pub mod Lists

@@ -8,14 +8,8 @@ mod place;
 ghost use Rattle.writing.specs.Numbers.{numbers};
 ghost use Rattle.writing.specs.Judged.{Written};
 
+use lists::Lists;
 use refusals::{Refusal, Verdict};
-
-// What writing a sheet answers: how long it is, or why nothing was written.
-#[derive(Clone, Copy)]
-pub enum Writing {
-    Done(usize),
-    Refused(Refusal),
-}
 
 // The sheet of these numbers into `out`, whose bytes past the sheet's length keep their values.
 pub fn write(
@@ -24,17 +18,19 @@ pub fn write(
     plants: &[u32],
     contracts: &[u32],
     out: &mut [u8],
-) -> Writing
+) -> Result<usize, Refusal>
     ensures { Written
         (numbers agents.now boundaries.now plants.now contracts.now)
         out.old result out.new }
 {
-    let v = judge::write_verdict(agents, boundaries, plants, contracts, out.len());
-    let Verdict::Refused(why) = v else {
-        let c = lists::counts_in(agents, boundaries, plants, contracts);
-        let size = lists::size(c);
-        place::put_sheet(agents, boundaries, plants, contracts, out, size / 16);
-        return Writing::Done(size);
+    let l = Lists {
+        agents,
+        boundaries,
+        plants,
+        contracts,
     };
-    Writing::Refused(why)
+    judge::write_verdict(l, out.len())?;
+    let size = lists::size(lists::counts_in(l));
+    place::put_sheet(l, out, size / 16);
+    Ok(size)
 }

@@ -2,26 +2,31 @@
 ghost use Rattle.std.specs.Prelude.{◌≡◌, ◌+◌, ◌*◌, ◌≤◌, ◌<◌, length};
 ghost use Rattle.sums.specs.Lists.{at};
 ghost use Rattle.sheet.specs.Reading.{trailer_start, sheet_length};
-ghost use Rattle.writing.specs.Numbers.{numbers, counts_in, agent_in, boundary_in, plant_in, contract_in};
+ghost use Rattle.writing.specs.Lists.{given};
+ghost use Rattle.writing.specs.Numbers.{counts_in, agent_in, boundary_in, plant_in, contract_in};
 
 use limits::{Agent, Boundary, Contract, Plant};
 use sheet::Counts;
 
+// The lists that a sheet is written from.
+#[derive(Clone, Copy)]
+pub(crate) struct Lists<'a> {
+    pub(crate) agents: &'a [u32],
+    pub(crate) boundaries: &'a [u32],
+    pub(crate) plants: &'a [u32],
+    pub(crate) contracts: &'a [u32],
+}
+
 // How many rows each list has.
-pub(crate) fn counts_in(
-    agents: &[u32],
-    boundaries: &[u32],
-    plants: &[u32],
-    contracts: &[u32],
-) -> Counts
+pub(crate) fn counts_in(l: Lists<'_>) -> Counts
     ensures { result ≡ counts_in
-        (numbers agents.now boundaries.now plants.now contracts.now) }
+        (given l.entry) }
 {
     Counts {
-        agents: agents.len(),
-        boundaries: boundaries.len() / 4,
-        plants: plants.len() / 5,
-        contracts: contracts.len() / 5,
+        agents: l.agents.len(),
+        boundaries: l.boundaries.len() / 4,
+        plants: l.plants.len() / 5,
+        contracts: l.contracts.len() / 5,
     }
 }
 
@@ -37,8 +42,7 @@ pub(crate) fn size(c: Counts) -> usize
 pub(crate) fn kind_in(agents: &[u32], a: u32) -> u32
     ensures { result ≡ at agents.now a }
 {
-    let i = a as usize;
-    if i < agents.len() { agents[i] } else { 0 }
+    agents.get(a as usize).copied().unwrap_or(0)
 }
 
 pub(crate) fn agent_in(l: &[u32], i: usize) -> Agent

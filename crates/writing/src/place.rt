@@ -3,11 +3,12 @@ ghost use Rattle.std.specs.Prelude.{◌≡◌, ◌+◌, ◌*◌, ◌≤◌, ◌<
 ghost use Rattle.sums.specs.Lists.{Filled};
 ghost use Rattle.octets.specs.Bytes.{byte_of};
 ghost use Rattle.sheet.specs.Reading.{trailer_start};
-ghost use Rattle.writing.specs.Numbers.{numbers, counts_in};
+ghost use Rattle.writing.specs.Lists.{given};
+ghost use Rattle.writing.specs.Numbers.{counts_in};
 ghost use Rattle.writing.specs.Words.{halves, agent_words, boundary_words, plant_words, contract_words, trailer_words, sheet_row};
 ghost use Rattle.writing.specs.Put.{put_number, put_row};
 
-use super::lists;
+use super::lists::{self, Lists};
 use limits::{Agent, Boundary, Contract, Plant};
 use octets::Words;
 use sheet::Counts;
@@ -24,9 +25,7 @@ fn agent_words(a: Agent) -> Words
 {
     Words {
         first: a.kind,
-        second: 0,
-        third: 0,
-        fourth: 0,
+        ..Words::default()
     }
 }
 
@@ -64,6 +63,7 @@ fn contract_words(k: Contract) -> Words
 }
 
 // A row of the trailer: distances back from its first byte, and counts.
+#[tactic(auto, unfolding(crate::specs::Words::trailer_words))]
 fn trailer_words(c: Counts, i: usize) -> Words
     requires { trailer_start c < 65536 }
     ensures { result ≡ trailer_words c i }
@@ -91,34 +91,27 @@ fn trailer_words(c: Counts, i: usize) -> Words
 }
 
 // Row r of the sheet.
-fn row_words(
-    agents: &[u32],
-    boundaries: &[u32],
-    plants: &[u32],
-    contracts: &[u32],
-    r: usize,
-) -> Words
-    requires { trailer_start (counts_in (numbers agents.now boundaries.now plants.now contracts.now)) < 65536 }
+#[tactic(auto, unfolding(crate::specs::Words::sheet_row))]
+fn row_words(l: Lists<'_>, r: usize) -> Words
+    requires { trailer_start (counts_in (given l)) < 65536 }
     ensures { result ≡ sheet_row
-        (numbers agents.now boundaries.now plants.now contracts.now) r }
+        (given l.entry) r }
 {
-    let a = agents.len();
-    let b = a + boundaries.len() / 4;
-    let p = b + plants.len() / 5;
-    let k = p + contracts.len() / 5;
-    if r < a {
-        agent_words(lists::agent_in(agents, r))
-    } else if r < b {
-        boundary_words(lists::boundary_in(boundaries, r - a))
-    } else if r < p {
-        plant_words(lists::plant_in(plants, r - b))
-    } else if r < k {
-        contract_words(lists::contract_in(contracts, r - p))
+    let c = lists::counts_in(l);
+    let boundaries = c.agents;
+    let plants = boundaries + c.boundaries;
+    let contracts = plants + c.plants;
+    let end = contracts + c.contracts;
+    if r < boundaries {
+        agent_words(lists::agent_in(l.agents, r))
+    } else if r < plants {
+        boundary_words(lists::boundary_in(l.boundaries, r - boundaries))
+    } else if r < contracts {
+        plant_words(lists::plant_in(l.plants, r - plants))
+    } else if r < end {
+        contract_words(lists::contract_in(l.contracts, r - contracts))
     } else {
-        trailer_words(
-            lists::counts_in(agents, boundaries, plants, contracts),
-            r - k,
-        )
+        trailer_words(c, r - end)
     }
 }
 
@@ -127,12 +120,10 @@ fn put_number(d: &mut [u8], k: usize, x: u32)
     requires { k + 4 ≤ length d.old }
     ensures { d.new ≡ put_number d.old k x }
 {
-    d[k] = (x % 256) as u8;
-    d[k + 1] = (x / 256 % 256) as u8;
-    d[k + 2] = (x / 65536 % 256) as u8;
-    d[k + 3] = (x / 16777216 % 256) as u8;
+    d[k..k + 4].copy_from_slice(&x.to_le_bytes());
 }
 
+#[tactic(auto, unfolding(crate::specs::Put::put_row))]
 fn put_row(d: &mut [u8], k: usize, w: Words)
     requires { k + 16 ≤ length d.old }
     ensures { d.new ≡ put_row d.old k w }
@@ -144,22 +135,14 @@ fn put_row(d: &mut [u8], k: usize, w: Words)
 }
 
 // The rows of the sheet, one after the other.
-pub(crate) fn put_sheet(
-    agents: &[u32],
-    boundaries: &[u32],
-    plants: &[u32],
-    contracts: &[u32],
-    out: &mut [u8],
-    rows: usize,
-)
-    requires { (trailer_start (counts_in (numbers agents.now boundaries.now plants.now contracts.now)) < 65536)
+pub(crate) fn put_sheet(l: Lists<'_>, out: &mut [u8], rows: usize)
+    requires { (trailer_start (counts_in (given l)) < 65536)
         × (16 * rows ≤ length out.old) }
     ensures { Filled 0 out.old out.new (16 * rows)
-        (byte_of (sheet_row (numbers agents.now boundaries.now plants.now
-        contracts.now))) }
+        (byte_of (sheet_row (given l.entry))) }
 {
     for r in 0..rows {
-        let w = row_words(agents, boundaries, plants, contracts, r);
+        let w = row_words(l, r);
         put_row(out, 16 * r, w);
     }
 }

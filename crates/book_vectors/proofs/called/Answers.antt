@@ -3,8 +3,8 @@ use Rattle.std.proofs.Common.{slice_index}
 use Rattle.book.proofs.True.{entered_kept, removed_kept}
 use Rattle.book_vectors.proofs.called.Goals as goal
 
-pub returns-then-call-eq2 : goal.returns-then-call-eq2
-returns-then-call-eq2 c = removed_kept c.args.held c.requires (slice_index c.args.call.now 1) c.without_hour.ensures
+pub returns-then-what-eq2 : goal.returns-then-what-eq2
+returns-then-what-eq2 c = removed_kept c.args.held c.requires (slice_index c.args.call.now 1) c.without_hour.ensures
 
 pub returns : goal.returns
 returns c =

@@ -1,8 +1,9 @@
 -- The whole call is judged before any hour is read: a refusal stands in all summaries and changes nothing, and where there is none all
 -- sheets and parts are there.
+use Rattle.std.specs.Prelude.{Ok}
 use mathlib.Core.Path.{◌≡◌, sym, ◌∙◌}
 use borrow.Author.Rules.{rules}
-use Rattle.refusals.specs.declared.Verdict.{Verdict}
+use Rattle.refusals.specs.Refusals.{Verdict}
 use Rattle.hour.specs.Answer.{lent}
 use Rattle.day.specs.Day.{day_verdict}
 use Rattle.day.proofs.Hours.{fits_of, day_done, day_refused}
@@ -28,13 +29,13 @@ whole c =
     day_verdict a.sheets.now a.lengths.now
     (lent a.figures.now a.money.now a.schedule.now a.amounts.now)
 
-returns : tie.Need-returns-in-Refused
+returns : tie.Need-returns-in-Err
 returns c =
     rw c.alike.ensures
     (day_refused _ _ _ (whole (alike_to_start c)) _
-    (sym c.judge-verdict.ensures ∙ c.in-Refused.is))
+    (sym c.judge-verdict.ensures ∙ c.in-Err.is))
 
-fine : (c : tie.In_default) → whole (in_default_to_start c) ≡ Verdict.Fine
+fine : (c : tie.In_default) → whole (in_default_to_start c) ≡ Ok tt
 fine c = sym c.judge-verdict.ensures ∙ c.in_default.is
 
 settle_hours_requires : tie.Need-settle_hours-requires

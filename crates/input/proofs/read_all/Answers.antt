@@ -23,10 +23,10 @@ loop-n-preserved g c =
     let at = c.loop-n.n in
     let room = length c.loop-n.buf - at in
     let within = c.loop-n.invariant.1 in
-    let part = slice_range-put_mid at room c.in-Ok.more c.loop-n.buf c.read-got.new.buf within c.in-Ok.ensures.bound.0 in
-    let joined = take_split at (at + c.in-Ok.more) c.loop-n.buf (put_mid at room c.loop-n.buf c.read-got.new.buf) (omega arith) (take-put_mid_below _ _ _ _ _ (le_refl _) within) in (
+    let part = slice_range-put_mid at room c.in_ok-more.more c.loop-n.buf c.read.new.buf within c.in_ok-more.ensures.bound.0 in
+    let joined = take_split at (at + c.in_ok-more.more) c.loop-n.buf (put_mid at room c.loop-n.buf c.read.new.buf) (omega arith) (take-put_mid_below _ _ _ _ _ (le_refl _) within) in (
       search rules,
       search rules,
       subst (Consumes _ _) (ap (λ l. take at c.loop-n.buf ++ l) (sym part) ∙ joined)
-          (Consumes-trans _ _ _ _ _ c.loop-n.invariant.2 c.in-Ok.ensures.bytes.0),
+          (Consumes-trans _ _ _ _ _ c.loop-n.invariant.2 c.in_ok-more.ensures.bytes.0),
     )

@@ -1,10 +1,10 @@
 -- The summary's number tells whether the sheet is turned away; where it is not, the columns are what its lines are made of.
+use Rattle.std.specs.Prelude.{Ok}
 use Prim.Native.Nat.{ℕ, ◌≤◌}
 use mathlib.Core.List.{List}
 use mathlib.Core.Path.{◌≡◌}
 use borrow.Author.Rules.{rules}
 use Rattle.limits.specs.Limits.{most_agents}
-use Rattle.refusals.specs.declared.Verdict.{Verdict}
 use Rattle.sheet.proofs.Accepted.{accepted_few}
 use Rattle.columns.specs.Columns.{hour_of, sheet_verdict}
 use Rattle.columns.proofs.Refusing.{none_fine}
@@ -45,7 +45,7 @@ returns c =
     rw (refused_sheet (bytes (slice_known_then_s_ne0_1_to_start c)) _ v) c.refused_page.ensures
 
 -- ---- an hour that nothing turns away
-fine : (c : tie.Else-s-ne0) → sheet_verdict (bytes (else_s_ne0_to_start c)) ≡ Verdict.Fine
+fine : (c : tie.Else-s-ne0) → sheet_verdict (bytes (else_s_ne0_to_start c)) ≡ Ok tt
 fine c =
     let s = bytes (else_s_ne0_to_start c) in
     summary_fine (sheet_verdict s) (hour_of s) _ c.settle_lists-s.ensures.answered (none_fine s) c.if-s-ne0.false

@@ -1,10 +1,10 @@
 -- Behind the first test the sheet settles, behind the second the contract is there; its row, its amount and its buyer's demand are then the
 -- definition's, and so are the figures told.
+use Rattle.std.specs.Prelude.{Ok}
 use Prim.Native.Nat.{◌<◌}
 use native.Mathlib.Omega.{arith}
 use mathlib.Core.Path.{◌≡◌, ap, ◌∙◌}
 use borrow.Author.Rules.{rules}
-use Rattle.refusals.specs.declared.Verdict.{Verdict}
 use Rattle.rows.specs.Rows.{contract_of}
 use Rattle.limits.specs.Limits.{most_agents}
 use Rattle.limits.specs.declared.Contract.{Contract}
@@ -29,7 +29,7 @@ abbrev judge_to_else_hour_ne0 : tie.After-judge → tie.Else-hour-ne0
 judge_to_else_hour_ne0 c = c.before.before.before.before.before.before.before.before
 
 -- behind the first test nothing turns the sheet away
-fine : (c : tie.Else-hour-ne0) → sheet_verdict c.args.bytes.now ≡ Verdict.Fine
+fine : (c : tie.Else-hour-ne0) → sheet_verdict c.args.bytes.now ≡ Ok tt
 fine c =
     let bytes = c.args.bytes.now in
     summary_fine (sheet_verdict bytes) (hour_of bytes) c.settle_hour-hour.result c.settle_hour-hour.ensures.answer (none_fine bytes)

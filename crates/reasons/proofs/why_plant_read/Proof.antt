@@ -1,8 +1,8 @@
+use Rattle.std.specs.Prelude.{Ok}
 use Prim.Native.Nat.{◌<◌}
 use native.Mathlib.Omega.{arith}
 use mathlib.Core.Path.{◌≡◌, ap, ◌∙◌}
 use borrow.Author.Rules.{rules}
-use Rattle.refusals.specs.declared.Verdict.{Verdict}
 use Rattle.rows.specs.Rows.{plant_of}
 use Rattle.octets.specs.declared.Words.{Words}
 use Rattle.sheet.proofs.Accepted.{accepted_few}
@@ -24,7 +24,7 @@ abbrev judge_plant_to_else_hour_ne0 : tie.After-judge_plant → tie.Else-hour-ne
 judge_plant_to_else_hour_ne0 c = c.before.before.before.before.before.before
 
 -- behind the first test nothing turns the sheet away
-fine : (c : tie.Else-hour-ne0) → sheet_verdict c.args.bytes.now ≡ Verdict.Fine
+fine : (c : tie.Else-hour-ne0) → sheet_verdict c.args.bytes.now ≡ Ok tt
 fine c =
     let bytes = c.args.bytes.now in
     summary_fine (sheet_verdict bytes) (hour_of bytes) c.settle_hour-hour.result c.settle_hour-hour.ensures.answer (none_fine bytes)

@@ -1,5 +1,6 @@
 -- Everything is judged before anything is written. The verdict is the hour's for the lent lists; a refusal leaves them as they were, and
 -- where there is none, the columns are the sheet's own, so that the lines are too.
+use Rattle.std.specs.Prelude.{Ok}
 use borrow.Author.Rules.{rules}
 use native.Mathlib.Omega.{arith}
 use Prim.Native.Nat.{ℕ, ◌≤◌, ◌<◌}
@@ -8,7 +9,7 @@ use mathlib.Core.List.{List}
 use mathlib.Core.Path.{◌≡◌, refl, ap}
 use lib.IntN.{pos}
 use Rattle.sums.specs.Lists.{at}
-use Rattle.refusals.specs.declared.Verdict.{Verdict}
+use Rattle.refusals.specs.Refusals.{Verdict}
 use Rattle.limits.specs.Limits.{most_agents}
 use Rattle.sheet.proofs.Accepted.{accepted_few}
 use Rattle.columns.specs.Columns.{columns_of}
@@ -135,7 +136,7 @@ returns c =
     }))
 
 -- ---- an hour that nothing turns away
-fine : (c : tie.Else-s-ne0) → judged (else_s_ne0_to_settle_columns_s c) ≡ Verdict.Fine
+fine : (c : tie.Else-s-ne0) → judged (else_s_ne0_to_settle_columns_s c) ≡ Ok tt
 fine c = summary_fine _ (sheet (else_s_ne0_to_start c)) _ c.settle_columns-s.ensures.answered (none_told _ _) c.if-s-ne0.false
 
 price : (c : tie.Else-s-ne0) → c.settle_columns-s.result.price ≡ bolsa_price (sheet (else_s_ne0_to_start c))

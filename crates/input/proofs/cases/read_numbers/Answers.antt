@@ -11,5 +11,5 @@ loop-cell-init g c = none_taken _
 pub loop-cell-preserved : goal.loop-cell-preserved
 loop-cell-preserved g c =
     let within : c.loop-cell.cell-index < length c.loop-cell.out = omega arith in
-    subst (NumbersTaken _ _) (sym (take_more_set c.loop-cell.out c.loop-cell.cell-index c.in-Number.x within))
-    (one_more _ _ _ _ _ c.loop-cell.invariant c.in-Number.ensures)
+    subst (NumbersTaken _ _) (sym (take_more_set c.loop-cell.out c.loop-cell.cell-index c.in-Ok-Some.x within))
+    (one_more _ _ _ _ _ c.loop-cell.invariant (rw c.in-Ok-Some.field-0-is at c.in-Ok-Some.ensures))

@@ -38,8 +38,8 @@ set_apart_must_to_columns c = c.before.before.before
 abbrev add_musts_arg_1_to_dispatch : tie.After-add_musts-arg-1 → tie.After-dispatch
 add_musts_arg_1_to_dispatch c = c.before.before.before.before
 
-abbrev dispatch_to_less_rest : tie.After-dispatch → tie.After-less-rest
-dispatch_to_less_rest c = c.before.before.before.before
+abbrev dispatch_to_saturating_sub_rest : tie.After-dispatch → tie.After-saturating_sub-rest
+dispatch_to_saturating_sub_rest c = c.before.before.before.before
 
 abbrev tally_arg_1_to_add_musts : tie.After-tally-arg-1 → tie.After-add_musts
 tally_arg_1_to_add_musts c = c.before.before.before.before
@@ -47,20 +47,20 @@ tally_arg_1_to_add_musts c = c.before.before.before.before
 abbrev add_musts_to_dispatch : tie.After-add_musts → tie.After-dispatch
 add_musts_to_dispatch c = c.before.before.before.before.before
 
-abbrev less_rest_to_columns : tie.After-less-rest → tie.After-columns
-less_rest_to_columns c = c.before.before.before.before.before
+abbrev saturating_sub_rest_to_columns : tie.After-saturating_sub-rest → tie.After-columns
+saturating_sub_rest_to_columns c = c.before.before.before.before.before
 
 abbrev dispatch_to_set_apart_must : tie.After-dispatch → tie.After-set_apart-must
 dispatch_to_set_apart_must c = c.before.before.before.before.before.before
 
-abbrev add_musts_to_less_rest : tie.After-add_musts → tie.After-less-rest
-add_musts_to_less_rest c = dispatch_to_less_rest c.before.before.before.before.before
+abbrev add_musts_to_saturating_sub_rest : tie.After-add_musts → tie.After-saturating_sub-rest
+add_musts_to_saturating_sub_rest c = dispatch_to_saturating_sub_rest c.before.before.before.before.before
 
 abbrev columns_to_start : tie.After-columns → tie.Start
 columns_to_start c = c.before.before.before.before.before.before.before.before.before
 
 abbrev dispatch_to_columns : tie.After-dispatch → tie.After-columns
-dispatch_to_columns c = less_rest_to_columns c.before.before.before.before
+dispatch_to_columns c = saturating_sub_rest_to_columns c.before.before.before.before
 
 abbrev flags_2_1_to_add_musts : tie.After-flags-2-1 → tie.After-add_musts
 flags_2_1_to_add_musts c = tally_arg_1_to_add_musts c.before.before.before.before.before
@@ -80,11 +80,11 @@ add_musts_arg_1_to_columns c = dispatch_to_columns c.before.before.before.before
 abbrev add_musts_to_columns : tie.After-add_musts → tie.After-columns
 add_musts_to_columns c = add_musts_arg_1_to_columns c.before
 
-abbrev less_rest_to_start : tie.After-less-rest → tie.Start
-less_rest_to_start c = set_apart_must_to_start c.before.before
+abbrev saturating_sub_rest_to_start : tie.After-saturating_sub-rest → tie.Start
+saturating_sub_rest_to_start c = set_apart_must_to_start c.before.before
 
 abbrev offers_2_1_to_start : tie.After-offers-2-1 → tie.Start
-offers_2_1_to_start c = less_rest_to_start c.before
+offers_2_1_to_start c = saturating_sub_rest_to_start c.before
 
 abbrev spare_4_1_to_start : tie.After-spare-4-1 → tie.Start
 spare_4_1_to_start c = offers_2_1_to_start c.before
@@ -172,18 +172,18 @@ spare c =
     c.set_apart-must.ensures.1
 
 -- the demand that the must-runs leave
-rest : (c : tie.After-less-rest)
-    → c.less-rest.result ≡ c.args.target
-    - sum (plants (sheet (less_rest_to_start c))) (at (sheet (less_rest_to_start c)).must_run)
+rest : (c : tie.After-saturating_sub-rest)
+    → c.saturating_sub-rest.result ≡ c.args.target
+    - sum (plants (sheet (saturating_sub_rest_to_start c))) (at (sheet (saturating_sub_rest_to_start c)).must_run)
 rest c =
-    c.less-rest.ensures
+    c.saturating_sub-rest.ensures
     ∙ ap (λ (m : ℕ). c.args.target - m)
-    (c.set_apart-must.ensures.0 ∙ musts_sum (less_rest_to_columns c))
+    (c.set_apart-must.ensures.0 ∙ musts_sum (saturating_sub_rest_to_columns c))
 
 -- ---- the schedule
 above : (c : tie.After-dispatch)
     → Dispatched (sheet (dispatch_to_start c)).offers (spare_of (sheet (dispatch_to_start c)))
-    c.less-rest.result c.args.schedule.now c.dispatch.result
+    c.saturating_sub-rest.result c.args.schedule.now c.dispatch.result
     c.dispatch.new.out
 above c =
     rw ((front (dispatch_to_columns c)).offers, spare (dispatch_to_set_apart_must c)) at c.dispatch.ensures
@@ -193,7 +193,7 @@ each : (c : tie.After-dispatch) (i : ℕ)
     → at (sheet (dispatch_to_start c)).must_run i + at c.dispatch.new.out i
     ≡ scheduled (sheet (dispatch_to_start c)) i
 each c =
-    scheduled_at _ (ok (dispatch_to_start c)) _ _ _ c.requires.1 _ (rest (dispatch_to_less_rest c)) _ _
+    scheduled_at _ (ok (dispatch_to_start c)) _ _ _ c.requires.1 _ (rest (dispatch_to_saturating_sub_rest c)) _ _
     (above c)
 
 filled : (c : tie.After-add_musts)
@@ -201,7 +201,7 @@ filled : (c : tie.After-add_musts)
     c.args.c.plants (scheduled (sheet (add_musts_to_start c)))
 filled c =
     filled_count 0 _ _ _ _ _ (count (add_musts_to_start c))
-    (scheduled_are _ (ok (add_musts_to_start c)) _ _ _ c.requires.1 _ (rest (add_musts_to_less_rest c)) _ _
+    (scheduled_are _ (ok (add_musts_to_start c)) _ _ _ c.requires.1 _ (rest (add_musts_to_saturating_sub_rest c)) _ _
     (above (add_musts_to_dispatch c)) _
     (filled_count 0 _ _ _ _ _ (sym (count (add_musts_to_start c)))
     (filled_by 0 _ _ _ _ _ (λ i m. ap (λ (x : ℕ). x + at c.dispatch.new.out i) (musts_at (add_musts_to_columns c) i m))
@@ -217,7 +217,7 @@ set_apart_requires c κs = (
 
 array_share_prefix_offers : tie.Need-slice_bounds-offers-end
 array_share_prefix_offers c =
-    front_fits _ _ _ _ c.columns.ensures.offers (few (less_rest_to_start c))
+    front_fits _ _ _ _ c.columns.ensures.offers (few (saturating_sub_rest_to_start c))
 
 slice_aggregate_dispatch : tie.Need-slice_bounds-dispatch-end
 slice_aggregate_dispatch c =

@@ -1,0 +1,7 @@
+use Rattle.std.proofs.Common.{◌+◌}
+use Rattle.sums.specs.Lists.{at, Filled}
+use Rattle.checking.specs.Parts.{share_at}
+use Rattle.checking.proofs.shares.demands.Given as goal
+
+abbrev pub invariant-loop-a : goal.invariant-loop-a
+invariant-loop-a l = Filled 0 l.initial.out l.out l.a (λ k. at l.used k + share_at l.figures k)

@@ -1,0 +1,23 @@
+use Prim.Native.Nat.{ℕ}
+use mathlib.Core.Path.{ap}
+use mathlib.Core.List.{List, [], ◌∷◌}
+use native.Mathlib.Omega.{arith}
+use lib.ListN.{drop}
+use Rattle.limits.specs.declared.Boundary.{Boundary}
+use Rattle.printing.specs.Put.{PutInRoom}
+use Rattle.text.specs.Lines.{boundary_word}
+use Rattle.text.specs.Written.{row_text}
+use Rattle.typing.specs.Text.{word_for, row_typed}
+use Rattle.typing.specs.Steps.{row_room}
+use Rattle.typing.proofs.Putting.{roomier}
+use Rattle.typing.proofs.texts.put_boundary.Goals as goal
+
+pub returns : goal.returns
+unfolding word_for row_typed
+returns c =
+    let a = c.args in
+    let rest = drop a.at a.s.now in
+    let row : Boundary → List ℕ = λ x. row_text boundary_word (x.agent ∷ x.factor ∷ x.import ∷ x.export ∷ []) rest in
+    let x : PutInRoom (row c.boundary_of-b.result) a.s.now c.put_row.new.s a.at 93
+    c.put_row.result = c.put_row.ensures in
+    roomier x (row_text (word_for 2) (row_typed 2 a.w) rest) row_room (omega arith) (ap row c.boundary_of-b.ensures)
