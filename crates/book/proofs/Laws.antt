@@ -5,7 +5,7 @@ use Prim.Native.Nat.{ℕ, ◌*◌, ◌<◌, ◌≤◌}
 use native.Mathlib.Nat.{mul-le-mul}
 use native.Mathlib.Omega.{arith}
 use mathlib.Core.Path.{◌≡◌, refl, sym, ap, subst}
-use mathlib.Core.Bool.{Bool, true, false, cond, true≢false}
+use mathlib.Core.Bool.{Bool, true, false, cond}
 use mathlib.Core.List.{List, [], ◌∷◌}
 use lib.Dec.{leb, ltb}
 use lib.ListN.{set}
@@ -15,20 +15,19 @@ use Rattle.sums.specs.Sums.{sum}
 use Rattle.sums.proofs.Sums.{sum_term, sum_most}
 use Rattle.sums.proofs.Tests.{all_true}
 use Rattle.refusals.specs.Refusals.{Verdict}
-use Rattle.refusals.specs.declared.Refusal.{Refusal}
 use Rattle.refusals.specs.Refusals.{not_there, over_book}
 use Rattle.refusals.proofs.Fine.{fine_left, fine_right, fine_test}
-use Rattle.book.specs.declared.Place.{Place}
+use Rattle.book.specs.declared.Hour.{Hour}
 use Rattle.book.specs.declared.Totals.{Totals}
 use Rattle.book.specs.declared.Book.{Book}
-use Rattle.book.specs.Book.{hours, most_energy, most_hour_price, blank, holding, place_at, money_bought, moved}
+use Rattle.book.specs.Book.{hours, most_energy, most_hour_price, Place, blank, holding, counted, place_at, money_bought}
 use Rattle.book.specs.Book.{with_place, slot_verdict, fits, entry_verdict, unless_refused, Does, Proper, Kept}
 use Rattle.book.specs.Told.{told_of, slot_of, Turns, Room, Carried, Carries}
 
 -- ---- places
 pub proper_blank : Proper blank
 proper_blank =
-    record { demand = omega arith; losses = omega arith; bought = omega arith; price = omega arith; empty = λ e. refl }
+    record { demand = omega arith; losses = omega arith; bought = omega arith; price = omega arith }
 
 pub proper_held : (demand losses bought price : ℕ)
     → fits demand losses bought price ≡ true
@@ -41,10 +40,9 @@ proper_held d l b p e =
       losses = leb-true l most_energy l';
       bought = leb-true b most_energy b';
       price = leb-true p most_hour_price p';
-      empty = λ f. absurd (true≢false f);
     }
 
-pub money_most : (p : Place) → Proper p → money_bought p ≤ most_energy * most_hour_price
+pub money_most : (p : Place) → Proper p → money_bought (counted p) ≤ most_energy * most_hour_price
 money_most p w = mul-le-mul {n₂ = most_energy} {m₂ = most_hour_price} w.bought w.price
 
 -- ---- what a verdict that is fine says of the hour and of what is entered
@@ -60,44 +58,29 @@ module _ (h d l b p : ℕ) (e : entry_verdict h d l b p ≡ Ok tt) where
       proper_held d l b p (fine_test (fits d l b p) over_book h
       (fine_left _ (Ok tt) (fine_right (slot_verdict h) _ e)))
 
--- ---- what a call tells, from its verdict
-module _ (v : Verdict) (old new : Place) (t : Totals) where
-  pub told_fine : (t' : Totals)
-      → v ≡ Ok tt
-      → t' ≡ moved t old new
-      → record { place = new; totals = t'; verdict = Ok tt } ≡ told_of v old t new
-  unfolding told_of
-  told_fine t' e m = rw (e, m)
-
-  pub told_refused : (r : Refusal)
-      → v ≡ Err r
-      → record { place = old; totals = t; verdict = Err r } ≡ told_of v old t new
-  unfolding told_of
-  told_refused r e = rw e
-
 -- ---- totals
 module _ (b : Book) (k : Kept b) (h : ℕ) (l : h < hours) where
-  column : (f : Place → ℕ) (m : ℕ)
-      → ((p : Place) → Proper p → f p ≤ m)
-      → Carried (sum hours (λ i. f (place_at b.places i))) (f (place_at b.places h)) m
+  column : (f : Hour → ℕ) (m : ℕ)
+      → ((p : Place) → Proper p → f (counted p) ≤ m)
+      → Carried (sum hours (λ i. f (counted (place_at b.places i)))) (f (counted (place_at b.places h))) m
   column f m w = record {
-    held = sum_term hours h (λ i. f (place_at b.places i)) l;
-    within = sum_most hours m (λ i. f (place_at b.places i)) (λ i q. w (place_at b.places i) (k.proper i q));
+    held = sum_term hours h (λ i. f (counted (place_at b.places i))) l;
+    within = sum_most hours m (λ i. f (counted (place_at b.places i))) (λ i q. w (place_at b.places i) (k.proper i q));
   }
 
-  pub kept_carries : Carries b.totals (place_at b.places h)
+  pub kept_carries : Carries b.totals (counted (place_at b.places h))
   kept_carries =
-      subst (λ (t : Totals). Carries t (place_at b.places h)) (sym k.true_totals) record {
-        demand = column (λ p. p.demand) most_energy (λ p w. w.demand);
-        losses = column (λ p. p.losses) most_energy (λ p w. w.losses);
-        bought = column (λ p. p.bought) most_energy (λ p w. w.bought);
+      subst (λ (t : Totals). Carries t (counted (place_at b.places h))) (sym k.true_totals) record {
+        demand = column (λ x. x.demand) most_energy (λ p w. w.demand);
+        losses = column (λ x. x.losses) most_energy (λ p w. w.losses);
+        bought = column (λ x. x.bought) most_energy (λ p w. w.bought);
         money = column money_bought (most_energy * most_hour_price) money_most;
       }
 
 turns : (t p q m : ℕ) → m ≤ most_energy * most_hour_price → Carried t p m → q ≤ m → Turns t p q
 turns t p q m s c w = record { held = c.held; fits = omega (arith, c.within) }
 
-pub room : (t : Totals) (old new : Place) → Carries t old → Proper new → Room t old new
+pub room : (t : Totals) (old new : Place) → Carries t (counted old) → Proper new → Room t (counted old) (counted new)
 room t old new c w = record {
   demand = turns _ _ _ most_energy (omega arith) c.demand w.demand;
   losses = turns _ _ _ most_energy (omega arith) c.losses w.losses;

@@ -1,12 +1,11 @@
 -- P8's promise: after any sequence of calls from an empty book, the totals are what a fresh sum over the places gives, and none
 -- overflows 64 bits. One place changed changes one term of each sum, so a book stays one that came from the library's own calls.
 -- Assumes nothing.
-use Rattle.std.specs.Prelude.{Ok, Err}
+use Rattle.std.specs.Prelude.{None, Ok, Err}
 use Prim.Native.Nat.{ℕ, ◌+◌, ◌-◌, ◌<◌, ◌^◌}
 use native.Mathlib.Omega.{arith}
 use native.Mathlib.Decide.{dec_lt, ℕ_discrete}
 use mathlib.Core.Path.{◌≡◌, refl, sym, ap, subst, ◌∙◌}
-use mathlib.Core.Bool.{false}
 use mathlib.Core.List.{List, [], ◌∷◌}
 use lib.ListN.{length, set, length-set, length-replicate, get_or-replicate}
 use lib.Seq.{get_or-set_same, get_or-set_other, set-get_or}
@@ -14,10 +13,10 @@ use borrow.Author.Tests.{lt-ltb, le-ltb}
 use Rattle.sums.specs.Sums.{sum}
 use Rattle.sums.proofs.Sums.{sum_term, sum_turned, sum_zero}
 use Rattle.refusals.specs.Refusals.{Verdict}
-use Rattle.book.specs.declared.Place.{Place}
+use Rattle.book.specs.declared.Hour.{Hour}
 use Rattle.book.specs.declared.Totals.{Totals}
 use Rattle.book.specs.declared.Book.{Book}
-use Rattle.book.specs.Book.{hours, blank, place_at, money_bought, fresh, empty_book, moved}
+use Rattle.book.specs.Book.{hours, Place, blank, counted, place_at, money_bought, fresh, empty_book, moved}
 use Rattle.book.specs.Book.{with_place, slot_verdict, entry_verdict, unless_refused, entered, removed, Does, Proper, Kept}
 use Rattle.book.specs.Calls.{Call, called, after}
 use Rattle.book.proofs.Laws.{proper_blank, fine_hour, entry_hour, entry_proper, kept_carries}
@@ -35,17 +34,17 @@ totals demand losses bought money = record { demand = demand; losses = losses; b
 same_totals : {a b c d a' b' c' d' : ℕ} → a ≡ a' → b ≡ b' → c ≡ c' → d ≡ d' → totals a b c d ≡ totals a' b' c' d'
 same_totals e f g h = rw (e, f, g, h)
 
-none : (f : Place → ℕ) → f blank ≡ 0 → 0 ≡ sum hours (λ i. f (place_at empty_book.places i))
+none : (f : Hour → ℕ) → f (counted blank) ≡ 0 → 0 ≡ sum hours (λ i. f (counted (place_at empty_book.places i)))
 none f e =
-    sym (sum_zero hours (λ i. f (place_at empty_book.places i))
-    (λ i l. ap f (get_or-replicate hours i blank blank l) ∙ e))
+    sym (sum_zero hours (λ i. f (counted (place_at empty_book.places i)))
+    (λ i l. ap (λ p. f (counted p)) (get_or-replicate hours i blank blank l) ∙ e))
 
 pub empty_kept : Kept empty_book
 empty_kept = record {
   long = length-replicate hours blank;
   proper = λ h l. subst Proper (sym (get_or-replicate hours h blank blank l)) proper_blank;
   true_totals =
-      same_totals (none (λ p. p.demand) refl) (none (λ p. p.losses) refl) (none (λ p. p.bought) refl)
+      same_totals (none (λ x. x.demand) refl) (none (λ x. x.losses) refl) (none (λ x. x.bought) refl)
       (none money_bought (omega arith));
 }
 
@@ -71,14 +70,15 @@ module _ (b : Book) (k : Kept b) (h : ℕ) (p : Place) (l : h < hours) (w : Prop
       go (no n) = subst Proper (sym (elsewhere i n)) (k.proper i m)
 
   -- one column's total, brought up to date
-  column : (f : Place → ℕ) (t : ℕ)
-      → t ≡ sum hours (λ i. f (place_at b.places i))
-      → t - f (place_at b.places h) + f p ≡ sum hours (λ i. f (place_at places i))
+  column : (f : Hour → ℕ) (t : ℕ)
+      → t ≡ sum hours (λ i. f (counted (place_at b.places i)))
+      → t - f (counted (place_at b.places h)) + f (counted p) ≡ sum hours (λ i. f (counted (place_at places i)))
   column f t e =
       let turned =
-      sum_turned hours h (λ i. f (place_at b.places i)) (λ i. f (place_at places i)) l (λ i n. ap f (elsewhere i n)) in
-      let held = sum_term hours h (λ i. f (place_at b.places i)) l in
-      let at_h = ap f here in
+      sum_turned hours h (λ i. f (counted (place_at b.places i))) (λ i. f (counted (place_at places i))) l
+      (λ i n. ap (λ q. f (counted q)) (elsewhere i n)) in
+      let held = sum_term hours h (λ i. f (counted (place_at b.places i))) l in
+      let at_h = ap (λ q. f (counted q)) here in
       omega arith
 
   pub place_kept : Kept (with_place b h p)
@@ -86,9 +86,9 @@ module _ (b : Book) (k : Kept b) (h : ℕ) (p : Place) (l : h < hours) (w : Prop
     long = length-set b.places h p ∙ k.long;
     proper = proper;
     true_totals = same_totals
-        (column (λ p. p.demand) b.totals.demand (ap (λ (t : Totals). t.demand) k.true_totals))
-        (column (λ p. p.losses) b.totals.losses (ap (λ (t : Totals). t.losses) k.true_totals))
-        (column (λ p. p.bought) b.totals.bought (ap (λ (t : Totals). t.bought) k.true_totals))
+        (column (λ x. x.demand) b.totals.demand (ap (λ (t : Totals). t.demand) k.true_totals))
+        (column (λ x. x.losses) b.totals.losses (ap (λ (t : Totals). t.losses) k.true_totals))
+        (column (λ x. x.bought) b.totals.bought (ap (λ (t : Totals). t.bought) k.true_totals))
         (column money_bought b.totals.money (ap (λ (t : Totals). t.money) k.true_totals));
   }
 
@@ -147,16 +147,15 @@ totals_bounded cs =
     }
 
 -- removing an empty place changes nothing
-pub empty_removed : (b : Book) → Kept b → (h : ℕ) → (place_at b.places h).held ≡ false → removed b h ≡ b
-empty_removed b k h e = go (dec_lt h hours)
+pub empty_removed : (b : Book) (h : ℕ) → place_at b.places h ≡ None → removed b h ≡ b
+empty_removed b h e = go (dec_lt h hours)
   where
-    still : (t : Totals) → moved t blank blank ≡ t
+    still : (t : Totals) → moved t (counted blank) (counted blank) ≡ t
     still t = same_totals (omega arith) (omega arith) (omega arith) (omega arith)
 
     go : Dec (h < hours) → removed b h ≡ b
     go (yes l) =
-        let o = (k.proper h l).empty e in
-        let same = ap (set b.places h) (sym o) ∙ set-get_or b.places h blank in
-        let sums = ap (λ (p : Place). moved b.totals p blank) o ∙ still b.totals in
+        let same = ap (set b.places h) (sym e) ∙ set-get_or b.places h blank in
+        let sums = ap (λ (p : Place). moved b.totals (counted p) (counted blank)) e ∙ still b.totals in
         rw (lt-ltb h hours l) (rw (same, sums))
     go (no n) = rw (le-ltb h hours (omega arith))

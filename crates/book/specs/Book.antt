@@ -1,12 +1,12 @@
 -- Document 02, P8: a day's book of 24 places, each empty or holding an hour's demand, losses, bought kWh and price, with the four
 -- day totals stored beside them. Assumes nothing.
-use Rattle.std.specs.Prelude.{Ok, Err}
-use Rattle.std.specs.Prelude.{ℕ, ◌+◌, ◌*◌, ◌-◌, ◌<◌, ◌≤◌, ◌≡◌, Bool, true, false, ◌&&◌, List, [], ◌∷◌, leb, ltb, length, get_or, set, replicate}
+use Rattle.std.specs.Prelude.{Option, Some, None, unwrap_or, Ok, Err}
+use Rattle.std.specs.Prelude.{ℕ, ◌+◌, ◌*◌, ◌-◌, ◌<◌, ◌≤◌, ◌≡◌, Bool, ◌&&◌, List, [], ◌∷◌, leb, ltb, length, get_or, set, replicate}
 use Rattle.sums.specs.Sums.{sum}
 pub use Rattle.sums.specs.Hours.{hours}
 use Rattle.refusals.specs.Refusals.{Verdict}
 use Rattle.refusals.specs.Refusals.{first_of, refused_unless, not_there, over_book}
-use Rattle.book.specs.declared.Place.{Place}
+use Rattle.book.specs.declared.Hour.{Hour}
 use Rattle.book.specs.declared.Totals.{Totals}
 use Rattle.book.specs.declared.Book.{Book}
 
@@ -17,35 +17,45 @@ most_energy = 4000000000
 abbrev pub most_hour_price : ℕ
 most_hour_price = 1000000
 
--- an empty place, and one that holds an hour
+abbrev pub hour_with : (demand losses bought price : ℕ) → Hour
+hour_with demand losses bought price = record { demand = demand; losses = losses; bought = bought; price = price }
+
+-- a place is empty, or holds an hour
+abbrev pub Place : Type 0
+Place = Option Hour
+
 abbrev pub blank : Place
-blank = record { held = false; demand = 0; losses = 0; bought = 0; price = 0 }
+blank = None
 
 abbrev pub holding : (demand losses bought price : ℕ) → Place
-holding demand losses bought price = record { held = true; demand = demand; losses = losses; bought = bought; price = price }
+holding demand losses bought price = Some (hour_with demand losses bought price)
+
+-- what a place counts in the totals: its hour, and 0 in each where it is empty
+abbrev pub counted : Place → Hour
+counted p = unwrap_or p (hour_with 0 0 0 0)
 
 -- the place of hour h
 abbrev pub place_at : List Place → ℕ → Place
 place_at places h = get_or places h blank
 
--- what a place's hour bought costs
-abbrev pub money_bought : Place → ℕ
-money_bought p = p.bought * p.price
+-- what the bought kWh of an hour cost
+abbrev pub money_bought : Hour → ℕ
+money_bought hour = hour.bought * hour.price
 
 -- the totals as a fresh sum over the places
 abbrev pub fresh : List Place → Totals
 fresh places = record {
-  demand = sum hours (λ h. (place_at places h).demand);
-  losses = sum hours (λ h. (place_at places h).losses);
-  bought = sum hours (λ h. (place_at places h).bought);
-  money = sum hours (λ h. money_bought (place_at places h));
+  demand = sum hours (λ h. (counted (place_at places h)).demand);
+  losses = sum hours (λ h. (counted (place_at places h)).losses);
+  bought = sum hours (λ h. (counted (place_at places h)).bought);
+  money = sum hours (λ h. money_bought (counted (place_at places h)));
 }
 
 abbrev pub empty_book : Book
 empty_book = record { places = replicate hours blank; totals = record { demand = 0; losses = 0; bought = 0; money = 0 } }
 
 -- "the stored totals are brought up to date where they stand": one place's part is taken back, and another's added
-abbrev pub moved : Totals → (old new : Place) → Totals
+abbrev pub moved : Totals → (old new : Hour) → Totals
 moved t old new = record {
   demand = t.demand - old.demand + new.demand;
   losses = t.losses - old.losses + new.losses;
@@ -55,7 +65,7 @@ moved t old new = record {
 
 -- the book with p at hour h, whatever stood there
 abbrev pub with_place : Book → ℕ → Place → Book
-with_place b h p = record { places = set b.places h p; totals = moved b.totals (place_at b.places h) p }
+with_place b h p = record { places = set b.places h p; totals = moved b.totals (counted (place_at b.places h)) (counted p) }
 
 -- refusals, place the hour: 12 for an hour outside 0 to 23
 abbrev pub slot_verdict : ℕ → Verdict
@@ -89,13 +99,12 @@ pub record Does (verdict : Verdict) (book : Book) (r : Verdict) (after : Book) :
   pub answer : r ≡ verdict
   pub left : after ≡ book
 
--- a place that holds nothing over the limits, and holds zeros where it is empty
+-- a place that holds nothing over the limits
 pub record Proper (p : Place) : Type 0 where
-  pub demand : p.demand ≤ most_energy
-  pub losses : p.losses ≤ most_energy
-  pub bought : p.bought ≤ most_energy
-  pub price : p.price ≤ most_hour_price
-  pub empty : p.held ≡ false → p ≡ blank
+  pub demand : (counted p).demand ≤ most_energy
+  pub losses : (counted p).losses ≤ most_energy
+  pub bought : (counted p).bought ≤ most_energy
+  pub price : (counted p).price ≤ most_hour_price
 
 -- a book that came from the library's own calls: its totals are what a fresh sum over its places gives
 pub record Kept (b : Book) : Type 0 where

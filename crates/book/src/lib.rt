@@ -4,21 +4,22 @@
 ghost use Rattle.std.specs.Prelude.{◌≡◌, ◌+◌, ◌*◌, ◌-◌};
 ghost use Rattle.refusals.specs.Refusals.{or_else};
 ghost use Rattle.refusals.specs.Refusals.{Verdict};
-ghost use Rattle.book.specs.Book.{blank, holding, moved, empty_book, fits, slot_verdict};
+ghost use Rattle.book.specs.Book.{blank, holding, counted, moved, empty_book, fits, slot_verdict};
 ghost use Rattle.book.specs.Book.{numbers_verdict, entry_verdict, entered, removed, Kept, Does};
 ghost use Rattle.book.specs.Told.{told_of, slot_of, Turns, Room, Carries};
 
 use refusals::{Refusal, Verdict, refuse_unless};
 
-// Where no hour is held, the numbers are 0.
 #[derive(Clone, Copy, Default)]
-pub struct Place {
-    pub held: bool,
+pub struct Hour {
     pub demand: u32,
     pub losses: u32,
     pub bought: u32,
     pub price: u32,
 }
+
+// A place is empty, or holds an hour.
+pub type Place = Option<Hour>;
 
 #[derive(Clone, Copy, Default)]
 pub struct Totals {
@@ -50,17 +51,18 @@ pub struct Told {
     pub verdict: Verdict,
 }
 
-fn nothing_held() -> Place
-    ensures { result ≡ blank }
+// What a place counts in the totals: 0 in each where it is empty.
+pub fn counted(place: Place) -> Hour
+    ensures { result ≡ counted place }
 {
-    Place::default()
+    place.unwrap_or_default()
 }
 
 pub fn empty() -> Book
     ensures { result ≡ empty_book }
 {
     Book {
-        places: [nothing_held(); 24],
+        places: [None; 24],
         totals: Totals::default(),
     }
 }
@@ -102,18 +104,6 @@ pub fn entry_verdict(hour: u32, demand: u32, losses: u32, bought: u32, price: u3
     numbers_verdict(hour, demand, losses, bought, price)
 }
 
-fn hour_held(demand: u32, losses: u32, bought: u32, price: u32) -> Place
-    ensures { result ≡ holding demand losses bought price }
-{
-    Place {
-        held: true,
-        demand,
-        losses,
-        bought,
-        price,
-    }
-}
-
 fn money(bought: u32, price: u32) -> u64
     ensures { result ≡ bought * price }
 {
@@ -128,7 +118,7 @@ fn turned(total: u64, old: u64, new: u64) -> u64
     total - old + new
 }
 
-fn totals_moved(t: Totals, old: Place, new: Place) -> Totals
+fn totals_moved(t: Totals, old: Hour, new: Hour) -> Totals
     requires { Room t old new }
     ensures { result ≡ moved t old new }
 {
@@ -151,13 +141,13 @@ fn totals_moved(t: Totals, old: Place, new: Place) -> Totals
 // A place and the totals with a new hour in the place, where the verdict is fine; a refusal is passed on, and nothing changes.
 #[tactic(auto, unfolding(crate::specs::Told::told_of))]
 fn turned_unless_refused(verdict: Verdict, old: Place, totals: Totals, new: Place) -> Told
-    requires { verdict ≡ Ok tt → Room totals old new }
+    requires { verdict ≡ Ok tt → Room totals (counted old) (counted new) }
     ensures { result ≡ told_of verdict old totals new }
 {
     match verdict {
         Ok(()) => Told {
             place: new,
-            totals: totals_moved(totals, old, new),
+            totals: totals_moved(totals, counted(old), counted(new)),
             verdict,
         },
         Err(_) => Told {
@@ -178,22 +168,26 @@ fn entering(
     bought: u32,
     price: u32,
 ) -> Told
-    requires { Carries totals old }
+    requires { Carries totals (counted old) }
     ensures { result ≡ told_of (entry_verdict hour demand losses bought price) old totals (holding demand losses bought price) }
 {
     let verdict = entry_verdict(hour, demand, losses, bought, price);
-    let new = hour_held(demand, losses, bought, price);
-    turned_unless_refused(verdict, old, totals, new)
+    let new = Hour {
+        demand,
+        losses,
+        bought,
+        price,
+    };
+    turned_unless_refused(verdict, old, totals, Some(new))
 }
 
 // What removing an hour makes of its place and the totals.
 fn removing(old: Place, totals: Totals, hour: u32) -> Told
-    requires { Carries totals old }
+    requires { Carries totals (counted old) }
     ensures { result ≡ told_of (slot_verdict hour) old totals blank }
 {
     let verdict = hour_verdict(hour);
-    let new = nothing_held();
-    turned_unless_refused(verdict, old, totals, new)
+    turned_unless_refused(verdict, old, totals, None)
 }
 
 // The place that a call looks at: the hour's, and the first where there is no such hour.

@@ -1,11 +1,11 @@
 -- A BOOK IN CELLS IS THE BOOK: after any sequence of calls on cells that were emptied, the cells are those of the book that the same calls
 -- leave from an empty one, each call answers as it does there, and the four totals are a fresh sum over the places. One place and the
 -- totals of such cells always look good, so that nothing but the book's own refusals is met. Assumes nothing.
-use Rattle.std.specs.Prelude.{Ok, Err}
+use Rattle.std.specs.Prelude.{Some, None, is_some, Ok, Err}
 use Prim.Native.Nat.{ℕ, ◌+◌, ◌*◌, ◌<◌, ◌≤◌}
 use native.Mathlib.Omega.{arith}
 use native.Mathlib.Decide.{dec_lt, ℕ_discrete}
-use mathlib.Core.Bool.{Bool, true, false}
+use mathlib.Core.Bool.{true}
 use mathlib.Core.List.{List, [], ◌∷◌}
 use mathlib.Core.Path.{◌≡◌, refl, ap, sym, subst, ◌∙◌}
 use lib.ListN.{length, set, get_or-replicate}
@@ -15,27 +15,26 @@ use Rattle.sums.specs.Lists.{at}
 use Rattle.sums.proofs.Fill.{filled_unique}
 use Rattle.refusals.specs.Refusals.{Verdict}
 use Rattle.refusals.proofs.Fine.{fine_test}
-use Rattle.book.specs.Book.{hours, most_energy, most_hour_price, blank, holding, place_at, money_bought, fresh, empty_book}
+use Rattle.book.specs.Book.{hours, most_energy, most_hour_price, Place, blank, holding, counted, place_at, money_bought, fresh, empty_book}
 use Rattle.book.specs.Book.{moved, with_place, slot_verdict, entry_verdict, unless_refused, entered, removed, Kept}
 use Rattle.book.specs.Calls.{Call, called, after}
 use Rattle.book.specs.declared.Book.{Book}
-use Rattle.book.specs.declared.Place.{Place}
 use Rattle.book.specs.declared.Totals.{Totals}
 use Rattle.book.proofs.Laws.{fine_hour, entry_hour, kept_carries}
 use Rattle.book.proofs.True.{empty_kept, called_kept, totals_true}
 use Rattle.book_cells.specs.Cells.{cells_per_place, totals_start, all_cells, flag_of, place_cells, totals_cells}
-use Rattle.book_cells.specs.Cells.{place_in, totals_in, shaped, carried, day_energy, day_money, looked_good, room_for}
+use Rattle.book_cells.specs.Cells.{hour_in, totals_in, shaped, carried, day_energy, day_money, looked_good, room_for}
 use Rattle.book_cells.specs.Cells.{cells_verdict, put, with_place_cells, unless_refused_cells, Emptied, CellsDo}
 use Rattle.book_cells.proofs.Put.{put_long, put_in, put_low, put_high}
 use Rattle.book_cells.proofs.Looked.{own_verdict}
 
 -- ---- cells that hold a book
 pub record HoldsPlace (cs : List ℕ) (h : ℕ) (p : Place) : Type 0 where
-  pub held : at cs (cells_per_place * h) ≡ flag_of p.held
-  pub demand : at cs (cells_per_place * h + 1) ≡ p.demand
-  pub losses : at cs (cells_per_place * h + 2) ≡ p.losses
-  pub bought : at cs (cells_per_place * h + 3) ≡ p.bought
-  pub price : at cs (cells_per_place * h + 4) ≡ p.price
+  pub held : at cs (cells_per_place * h) ≡ flag_of (is_some p)
+  pub demand : at cs (cells_per_place * h + 1) ≡ (counted p).demand
+  pub losses : at cs (cells_per_place * h + 2) ≡ (counted p).losses
+  pub bought : at cs (cells_per_place * h + 3) ≡ (counted p).bought
+  pub price : at cs (cells_per_place * h + 4) ≡ (counted p).price
 
 pub record HoldsTotals (cs : List ℕ) (t : Totals) : Type 0 where
   pub demand : at cs totals_start ≡ t.demand
@@ -80,7 +79,7 @@ emptied_holds l cs e =
 module _ (cs : List ℕ) (b : Book) (holds : Holds cs b) (long : length b.places ≡ hours) (h : ℕ) (l : h < hours)
     (p : Place) where
   abbrev t : Totals
-  t = moved (totals_in cs) (place_in cs h) p
+  t = moved (totals_in cs) (hour_in cs h) (counted p)
 
   abbrev mid : List ℕ
   mid = put cs (cells_per_place * h) (place_cells p)
@@ -160,7 +159,7 @@ module _ (cs : List ℕ) (b : Book) (holds : Holds cs b) (long : length b.places
           place_here)
       go (no n) = subst (HoldsPlace new g) (sym (get_or-set_other b.places h g p blank n)) (place_there g n m)
 
-  totals_hold : HoldsTotals new (moved b.totals (place_at b.places h) p)
+  totals_hold : HoldsTotals new (moved b.totals (counted (place_at b.places h)) (counted p))
   totals_hold =
       let o = holds.places h l in
       let u = holds.totals in
@@ -180,13 +179,9 @@ module _ (cs : List ℕ) (b : Book) (holds : Holds cs b) (long : length b.places
 
 -- ---- cells that hold a book look good
 shaped_held : (p : Place)
-    → (p.held ≡ false → p ≡ blank)
-    → shaped (flag_of p.held) p.demand p.losses p.bought p.price ≡ true
-shaped_held p w = go p.held refl
-  where
-    go : (t : Bool) → p.held ≡ t → shaped (flag_of p.held) p.demand p.losses p.bought p.price ≡ true
-    go true e = rw e
-    go false e = rw (w e)
+    → shaped (flag_of (is_some p)) (counted p).demand (counted p).losses (counted p).bought (counted p).price ≡ true
+shaped_held (Some hour) = refl
+shaped_held None = refl
 
 carried_held : (total part day : ℕ) → part ≤ total → total ≤ day → carried total part day ≡ true
 carried_held total part day h k = rw (le-leb part total h, le-leb total day k)
@@ -196,21 +191,22 @@ module _ (cs : List ℕ) (b : Book) (kept : Kept b) (holds : Holds cs b) where
   unfolding looked_good
   held_looks h l =
       let p = place_at b.places h in
+      let x = counted p in
       let o = holds.places h l in
       let u = holds.totals in
       let w = kept.proper h l in
       let c = kept_carries b kept h l in
       rw (o.held, o.demand, o.losses, o.bought, o.price, u.demand, u.losses, u.bought, u.money)
       (rw (
-        le-leb p.demand most_energy w.demand,
-        le-leb p.losses most_energy w.losses,
-        le-leb p.bought most_energy w.bought,
-        le-leb p.price most_hour_price w.price,
-        shaped_held p w.empty,
-        carried_held b.totals.demand p.demand day_energy c.demand.held c.demand.within,
-        carried_held b.totals.losses p.losses day_energy c.losses.held c.losses.within,
-        carried_held b.totals.bought p.bought day_energy c.bought.held c.bought.within,
-        carried_held b.totals.money (money_bought p) day_money c.money.held c.money.within,
+        le-leb x.demand most_energy w.demand,
+        le-leb x.losses most_energy w.losses,
+        le-leb x.bought most_energy w.bought,
+        le-leb x.price most_hour_price w.price,
+        shaped_held p,
+        carried_held b.totals.demand x.demand day_energy c.demand.held c.demand.within,
+        carried_held b.totals.losses x.losses day_energy c.losses.held c.losses.within,
+        carried_held b.totals.bought x.bought day_energy c.bought.held c.bought.within,
+        carried_held b.totals.money (money_bought x) day_money c.money.held c.money.within,
       ))
 
   -- a call on the cells is that call on the book

@@ -7,9 +7,8 @@ use mathlib.Core.List.{List}
 use mathlib.Core.Path.{◌≡◌, subst, sym}
 use Rattle.sums.specs.Lists.{at}
 use Rattle.refusals.specs.Refusals.{Verdict}
-use Rattle.book.specs.Book.{most_energy, most_hour_price}
+use Rattle.book.specs.Book.{most_energy, most_hour_price, Place, counted}
 use Rattle.book.specs.Told.{Turns}
-use Rattle.book.specs.declared.Place.{Place}
 use Rattle.book.proofs.Laws.{money_most}
 use Rattle.book_cells.specs.Cells.{cells_per_place, totals_start, day_energy, day_money}
 use Rattle.book_cells.specs.Cells.{cells_verdict}
@@ -26,15 +25,15 @@ module _ (l : List ℕ) (h : ℕ) (p : Place) (w : Turnable l h p) (s : ℕ) (es
   looks : Looked l s
   looks = subst (Looked l) (sym es) (looked_says l h w.looked)
 
-  pub turns_demand : (old new : ℕ) → old ≡ at l (s + 1) → new ≡ p.demand → Turns (at l totals_start) old new
+  pub turns_demand : (old new : ℕ) → old ≡ at l (s + 1) → new ≡ (counted p).demand → Turns (at l totals_start) old new
   turns_demand old new e f =
       let m = w.proper.demand in turns _ _ day_energy old new looks.demand e (omega arith)
 
-  pub turns_losses : (old new : ℕ) → old ≡ at l (s + 2) → new ≡ p.losses → Turns (at l (totals_start + 1)) old new
+  pub turns_losses : (old new : ℕ) → old ≡ at l (s + 2) → new ≡ (counted p).losses → Turns (at l (totals_start + 1)) old new
   turns_losses old new e f =
       let m = w.proper.losses in turns _ _ day_energy old new looks.losses e (omega arith)
 
-  pub turns_bought : (old new : ℕ) → old ≡ at l (s + 3) → new ≡ p.bought → Turns (at l (totals_start + 2)) old new
+  pub turns_bought : (old new : ℕ) → old ≡ at l (s + 3) → new ≡ (counted p).bought → Turns (at l (totals_start + 2)) old new
   turns_bought old new e f =
       let m = w.proper.bought in turns _ _ day_energy old new looks.bought e (omega arith)
 
@@ -42,7 +41,7 @@ module _ (l : List ℕ) (h : ℕ) (p : Place) (w : Turnable l h p) (s : ℕ) (es
     pub old_fits : b * q < 2 ^ 64
     old_fits = rw (eb, eq) (money_fits _ _ _ _ looks.fits)
 
-    module _ (nb nq : ℕ) (fb : nb ≡ p.bought) (fq : nq ≡ p.price) where
+    module _ (nb nq : ℕ) (fb : nb ≡ (counted p).bought) (fq : nq ≡ (counted p).price) where
       pub turns_money : Turns (at l (totals_start + 3)) (b * q) (nb * nq)
       turns_money =
           let m : nb * nq ≤ most_energy * most_hour_price = rw (fb, fq) (money_most p w.proper) in

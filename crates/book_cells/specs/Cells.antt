@@ -1,13 +1,13 @@
 -- Document 02, P8: a day's book as cells in a lent list. A place has five cells, held (1, and 0 where it is empty), demand, losses, bought
 -- and price; the 24 places stand one behind another, and behind them the totals: demand, losses, bought kWh, bought money.
 -- Assumes nothing.
-use Rattle.std.specs.Prelude.{Ok, Err}
+use Rattle.std.specs.Prelude.{is_some, Ok, Err}
 use Rattle.std.specs.Prelude.{ℕ, ◌+◌, ◌-◌, ◌*◌, ◌≡◌, Bool, ◌&&◌, ◌||◌, cond, List, [], ◌∷◌, leb, ltb, eqb, length}
 use Rattle.sums.specs.Lists.{at, list_to, Filled}
 use Rattle.refusals.specs.Refusals.{no_room, refused_unless, first_of, cells}
 use Rattle.refusals.specs.Refusals.{Verdict}
-use Rattle.book.specs.Book.{hours, most_energy, most_hour_price, fits, moved}
-use Rattle.book.specs.declared.Place.{Place}
+use Rattle.book.specs.Book.{hours, most_energy, most_hour_price, Place, hour_with, counted, fits, moved}
+use Rattle.book.specs.declared.Hour.{Hour}
 use Rattle.book.specs.declared.Totals.{Totals}
 
 abbrev pub cells_per_place : ℕ
@@ -24,16 +24,18 @@ abbrev pub flag_of : Bool → ℕ
 flag_of held = cond held 1 0
 
 abbrev pub place_cells : Place → List ℕ
-place_cells p = flag_of p.held ∷ p.demand ∷ p.losses ∷ p.bought ∷ p.price ∷ []
+place_cells p =
+    let hour = counted p in
+    flag_of (is_some p) ∷ hour.demand ∷ hour.losses ∷ hour.bought ∷ hour.price ∷ []
 
 abbrev pub totals_cells : Totals → List ℕ
 totals_cells t = t.demand ∷ t.losses ∷ t.bought ∷ t.money ∷ []
 
--- what the cells say of hour h, and of the day
-abbrev pub place_in : List ℕ → ℕ → Place
-place_in l h =
+-- what the cells say of hour h, held or not, and of the day
+abbrev pub hour_in : List ℕ → ℕ → Hour
+hour_in l h =
     let s = cells_per_place * h in
-    record { held = eqb (at l s) 1; demand = at l (s + 1); losses = at l (s + 2); bought = at l (s + 3); price = at l (s + 4) }
+    hour_with (at l (s + 1)) (at l (s + 2)) (at l (s + 3)) (at l (s + 4))
 
 abbrev pub totals_in : List ℕ → Totals
 totals_in l =
@@ -92,7 +94,7 @@ put l s ns = list_to (cell_with l s ns) (length l)
 -- the cells with p at hour h, whatever stood there, and the totals brought up to date
 abbrev pub with_place_cells : List ℕ → (h : ℕ) → Place → List ℕ
 with_place_cells l h p =
-    put (put l (cells_per_place * h) (place_cells p)) totals_start (totals_cells (moved (totals_in l) (place_in l h) p))
+    put (put l (cells_per_place * h) (place_cells p)) totals_start (totals_cells (moved (totals_in l) (hour_in l h) (counted p)))
 
 -- what a call leaves: a refusal leaves the cells as they were
 abbrev pub unless_refused_cells : Verdict → (before after : List ℕ) → List ℕ

@@ -2,8 +2,7 @@
 use Rattle.std.specs.Prelude.{Ok}
 use Rattle.std.specs.Prelude.{ℕ, ◌≤◌, ◌<◌, true, ◌≡◌, List, length}
 use Rattle.refusals.specs.Refusals.{Verdict}
-use Rattle.book.specs.Book.{hours, Proper}
-use Rattle.book.specs.declared.Place.{Place}
+use Rattle.book.specs.Book.{hours, Place, Proper}
 use Rattle.book_cells.specs.Cells.{all_cells, looked_good}
 
 -- the cells are enough, could be a book's, and the new place is within its limits

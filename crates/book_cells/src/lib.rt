@@ -5,13 +5,13 @@
 
 ghost use Rattle.std.specs.Prelude.{◌≡◌, ◌+◌, ◌-◌, ◌*◌, ◌≤◌, ◌^◌, ◌<◌, length};
 ghost use Rattle.sums.specs.Lists.{at};
-ghost use Rattle.book.specs.Book.{blank, holding, fits, moved, slot_verdict, entry_verdict};
+ghost use Rattle.book.specs.Book.{blank, holding, counted, fits, moved, slot_verdict, entry_verdict};
 ghost use Rattle.book_cells.specs.Cells.{cells_per_place, shaped, carried, day_good, looked_good, room_for, looked_verdict};
-ghost use Rattle.book_cells.specs.Cells.{cells_verdict, place_in, totals_in, put, with_place_cells, Emptied, CellsDo};
+ghost use Rattle.book_cells.specs.Cells.{cells_verdict, hour_in, totals_in, put, with_place_cells, Emptied, CellsDo};
 ghost use Rattle.book.specs.Told.{Turns};
 ghost use Rattle.book_cells.specs.Steps.{Turnable, OwnGood};
 
-use book::{Book, Place, Totals};
+use book::{Book, Hour, Place, Totals};
 use refusals::{Refusal, Verdict, refuse_unless};
 
 // Where the totals stand, and how many cells there are.
@@ -134,9 +134,10 @@ fn new_total(cells: &[u64], total: usize, old: u64, new: u64) -> u64
 // The totals with another hour, or none, in a place.
 fn new_totals(cells: &[u64], hour: u32, new: Place) -> Totals
     requires { Turnable cells.now hour new }
-    ensures { result ≡ moved (totals_in cells.now) (place_in cells.now hour) new }
+    ensures { result ≡ moved (totals_in cells.now) (hour_in cells.now hour) (counted new) }
 {
     let start = start_of(hour);
+    let new = book::counted(new);
     let bought = u64::from(new.bought);
     let old_bought = cell(cells, start + 3);
     let old_money = old_bought * cell(cells, start + 4);
@@ -159,8 +160,10 @@ fn turn(cells: &mut [u64], hour: u32, new: Place)
     ensures { cells.new ≡ with_place_cells cells.old hour new }
 {
     let t = new_totals(cells, hour, new);
+    let held = u64::from(new.is_some());
+    let new = book::counted(new);
     let place = [
-        u64::from(new.held),
+        held,
         u64::from(new.demand),
         u64::from(new.losses),
         u64::from(new.bought),
@@ -205,14 +208,13 @@ pub fn enter(
         cells.new }
 {
     let own = book::entry_verdict(hour, demand, losses, bought, price);
-    let new = Place {
-        held: true,
+    let new = Hour {
         demand,
         losses,
         bought,
         price,
     };
-    turn_unless_refused(cells, hour, own, new)
+    turn_unless_refused(cells, hour, own, Some(new))
 }
 
 // Removes an hour.
@@ -221,12 +223,5 @@ pub fn remove(cells: &mut [u64], hour: u32) -> Verdict
         (with_place_cells cells.old hour blank) cells.old result cells.new }
 {
     let own = book::hour_verdict(hour);
-    let none = Place {
-        held: false,
-        demand: 0,
-        losses: 0,
-        bought: 0,
-        price: 0,
-    };
-    turn_unless_refused(cells, hour, own, none)
+    turn_unless_refused(cells, hour, own, None)
 }

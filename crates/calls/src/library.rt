@@ -114,14 +114,15 @@ fn printed<P: Print>(rt: &P, p: Result<usize, Refusal>) -> io::Result<()> {
     }
 }
 
-// The page of an hour whose price, demand and losses are x, x and y.
+// The page of an hour whose price, demand and losses are x, x and y. Money is lent as the room is, since the check has no call that
+// takes one list of a lent struct to read and another to write.
 pub(crate) fn print<P: Print>(
     rt: &P,
     x: u32,
     y: u32,
     kinds: &[u32],
     figures: &[u32],
-    money: &[i64],
+    money: &mut [i64],
     out: &mut [u8],
 ) -> io::Result<()> {
     let s = Summary {

@@ -1,7 +1,7 @@
 -- What the book in cells and the entry of an hour answer, as numbers. Assumes nothing.
 use Rattle.std.specs.Prelude.{Result}
 use Rattle.refusals.specs.declared.Refusal.{Refusal}
-use Rattle.book.specs.declared.Place.{Place}
+use Rattle.book.specs.declared.Hour.{Hour}
 use Prim.Native.Nat.{ℕ, ◌≤◌, ◌<◌}
 use mathlib.Core.Path.{◌≡◌, sym, ap, ◌∙◌}
 use mathlib.Core.List.{List, [], ◌∷◌}
@@ -21,7 +21,7 @@ module _ (sheet summary figures : List ℕ) where
   unfolding entry_told
   entry_short l = rw (lt-leb 5 (length summary) l)
 
-  pub entry_known : (e : Result Place Refusal) → 5 ≤ length summary → entry_of sheet (summary_in summary) figures ≡ e
+  pub entry_known : (e : Result Hour Refusal) → 5 ≤ length summary → entry_of sheet (summary_in summary) figures ≡ e
       → entry_told sheet summary figures ≡ entry_answer e
   unfolding entry_told
   entry_known e l q = rw (le-leb 5 (length summary) l) (ap entry_answer q)

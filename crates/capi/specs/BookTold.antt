@@ -1,7 +1,7 @@
 -- What a C caller is told of a day's book in cells, and of the entry of an hour. Assumes nothing.
 use Rattle.std.specs.Prelude.{Result, Ok, Err}
 use Rattle.refusals.specs.declared.Refusal.{Refusal}
-use Rattle.book.specs.declared.Place.{Place}
+use Rattle.book.specs.declared.Hour.{Hour}
 use Rattle.std.specs.Prelude.{ℕ, cond, List, [], ◌∷◌, ◌≡◌, length, leb}
 use Rattle.sums.specs.Lists.{at, Filled}
 use Rattle.refusals.specs.Refusals.{no_room, number_of, cells}
@@ -26,8 +26,8 @@ abbrev pub summary_in : List ℕ → Summary
 summary_in l = record { number = at l 0; place = at l 1; price = at l 2; demand = at l 3; losses = at l 4 }
 
 -- its entry: number, place, demand, losses, bought kWh and price, 0 where refused
-abbrev pub entry_answer : Result Place Refusal → List ℕ
-entry_answer (Ok p) = 0 ∷ 0 ∷ p.demand ∷ p.losses ∷ p.bought ∷ p.price ∷ []
+abbrev pub entry_answer : Result Hour Refusal → List ℕ
+entry_answer (Ok x) = 0 ∷ 0 ∷ x.demand ∷ x.losses ∷ x.bought ∷ x.price ∷ []
 entry_answer (Err r) = r.number ∷ r.place ∷ 0 ∷ 0 ∷ 0 ∷ 0 ∷ []
 
 -- 11 where the summary has too few cells

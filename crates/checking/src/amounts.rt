@@ -4,30 +4,22 @@ ghost use Rattle.sums.specs.Lists.{Filled};
 ghost use Rattle.sheet.specs.Reading.{read_of};
 ghost use Rattle.sheet.specs.Asking.{contract_at};
 ghost use Rattle.columns.specs.Columns.{columns_of};
-ghost use Rattle.checking.specs.Accounts.{no_contract, no_contracts};
+ghost use Rattle.checking.specs.Accounts.{no_contract};
 ghost use Rattle.checking.specs.Parts.{Spacious, Holdable, Holding, Agreed};
 
 use crate::passes;
 use limits::Contract;
 use sheet::Counts;
 
-// The contract rows, and behind them rows of zeros.
-fn contracts(bytes: &[u8], c: Counts) -> [Contract; Contract::MOST]
+// The contract rows, into lent cells: two arrays of rows would be too much stack.
+fn contracts(bytes: &[u8], c: Counts, rows: &mut [Contract; Contract::MOST])
     requires { read_of bytes.now ≡ Ok c }
-    ensures { Filled no_contract no_contracts result c.contracts (contract_at bytes.now c) }
+    ensures { Filled no_contract rows.old rows.new c.contracts (contract_at bytes.now c) }
 {
     let section = sheet::asking::section_of(bytes, c, Contract::SECTION);
-    let mut rows = [Contract {
-        seller: 0,
-        buyer: 0,
-        kind: 0,
-        price: 0,
-        quantity: 0,
-    }; Contract::MOST];
     for j in 0..c.contracts {
         rows[j] = rows::contract_of(octets::row_at(section, j));
     }
-    rows
 }
 
 // Adds to each agent's cell what it buys and sells, in one sum, since nobody does both.
@@ -55,7 +47,14 @@ pub(crate) fn judge(
     ensures { Agreed (columns_of bytes.now c) demands.now amounts.now
         held.old result held.new }
 {
-    let all = contracts(bytes, c);
+    let mut all = [Contract {
+        seller: 0,
+        buyer: 0,
+        kind: 0,
+        price: 0,
+        quantity: 0,
+    }; Contract::MOST];
+    contracts(bytes, c, &mut all);
     let rows = &all[..c.contracts];
     hold(rows, amounts, held);
     passes::hour_follows(rows, amounts, demands)

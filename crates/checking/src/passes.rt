@@ -210,25 +210,16 @@ fn verdict(v: Seen, z: Summed, groups: bool, left: u32, d: u32) -> bool
     v.good & (last & (first & (groups & (v.given == share))))
 }
 
-// The first pass over the rows of all retailers.
-fn look_rows(rows: &[Contract], amounts: &[u32]) -> [Seen; Agent::MOST]
-    requires { Placed rows.now amounts.now }
-    ensures { AllSeen (rows_from rows.now) amounts.now (length rows.now) result }
+// The first pass over the rows of all retailers, into lent cells: what each pass finds stands once on the stack.
+fn look_rows(rows: &[Contract], amounts: &[u32], all: &mut [Seen; Agent::MOST])
+    requires placed { Placed rows.now amounts.now }
+    requires begun { AllSeen (rows_from rows.now) amounts.now 0 all.old }
+    ensures { AllSeen (rows_from rows.now) amounts.now (length rows.now) all.new }
 {
-    let mut all = [Seen {
-        good: true,
-        reach: 0,
-        depth: 0,
-        top: 0,
-        firm: 0,
-        given: 0,
-        asked: 0,
-    }; Agent::MOST];
     for (i, &row) in rows.iter().enumerate() {
         let b = row.buyer as usize;
         all[b] = look(all[b], row, amounts[i]);
     }
-    all
 }
 
 // One row more in the sums of its buyer, of whom the first pass found v.
@@ -244,22 +235,20 @@ fn add_at(v: Seen, z: Summed, row: Contract, amount: u32) -> Summed
 }
 
 // The second pass.
-fn add_rows(rows: &[Contract], amounts: &[u32], seen: &[Seen; Agent::MOST]) -> [Summed; Agent::MOST]
-    requires { Placed rows.now amounts.now }
-    ensures { AllSummed (rows_from rows.now) amounts.now seen.now (length rows.now) result }
+fn add_rows(
+    rows: &[Contract],
+    amounts: &[u32],
+    seen: &[Seen; Agent::MOST],
+    all: &mut [Summed; Agent::MOST],
+)
+    requires placed { Placed rows.now amounts.now }
+    requires begun { AllSummed (rows_from rows.now) amounts.now seen.now 0 all.old }
+    ensures { AllSummed (rows_from rows.now) amounts.now seen.now (length rows.now) all.new }
 {
-    let mut all = [Summed {
-        ahead: 0,
-        largest: 0,
-        under: 0,
-        cheaper: 0,
-        whole: 0,
-    }; Agent::MOST];
     for (i, &row) in rows.iter().enumerate() {
         let b = row.buyer as usize;
         all[b] = add_at(seen[b], all[b], row, amounts[i]);
     }
-    all
 }
 
 fn group_at(d: u32, v: Seen, z: Summed, row: Contract, amount: u32) -> bool
@@ -310,8 +299,24 @@ pub(crate) fn hour_follows(rows: &[Contract], amounts: &[u32], demands: &[u32]) 
     requires { Dealt rows.now amounts.now demands.now }
     ensures { result ≡ hour_good (rows_from rows.now) demands.now amounts.now }
 {
-    let seen = look_rows(rows, amounts);
-    let sums = add_rows(rows, amounts, &seen);
+    let mut seen = [Seen {
+        good: true,
+        reach: 0,
+        depth: 0,
+        top: 0,
+        firm: 0,
+        given: 0,
+        asked: 0,
+    }; Agent::MOST];
+    look_rows(rows, amounts, &mut seen);
+    let mut sums = [Summed {
+        ahead: 0,
+        largest: 0,
+        under: 0,
+        cheaper: 0,
+        whole: 0,
+    }; Agent::MOST];
+    add_rows(rows, amounts, &seen, &mut sums);
     let fine = group_rows(rows, amounts, demands, &seen, &sums);
     agents_good(&seen, &sums, &fine, demands)
 }

@@ -57,23 +57,6 @@ fn print_hour<R: Env + Print>(rt: &R, h: usize, from: usize, sheet: &[u8]) -> io
     Ok(is_settled(page))
 }
 
-// Prints the pages and keeps which hours were settled.
-fn print_hours<R: Env + Print>(
-    rt: &R,
-    first: usize,
-    sheets: &Sheets,
-    sizes: &[usize; HOURS],
-    settled: &mut [bool; HOURS],
-) -> io::Result<()>
-    requires { first + hours ≤ 18446744073709551615 }
-{
-    for h in 0..HOURS {
-        let sheet = front(&sheets[h], sizes[h]);
-        settled[h] = print_hour(rt, h, first + h, sheet)?;
-    }
-    Ok(())
-}
-
 // How many hours were settled, and which were refused.
 fn print_last<P: Print>(rt: &P, settled: &[bool; HOURS]) -> io::Result<()> {
     let count = settled.iter().filter(|is| **is).count();
@@ -86,6 +69,7 @@ fn print_last<P: Print>(rt: &P, settled: &[bool; HOURS]) -> io::Result<()> {
     say(rt, b"\n")
 }
 
+// The pages, and the line on the whole day.
 fn print_day<R: Env + Print>(
     rt: &R,
     first: usize,
@@ -95,7 +79,10 @@ fn print_day<R: Env + Print>(
     requires { first + hours ≤ 18446744073709551615 }
 {
     let mut settled = [false; HOURS];
-    print_hours(rt, first, sheets, sizes, &mut settled)?;
+    for h in 0..HOURS {
+        let sheet = front(&sheets[h], sizes[h]);
+        settled[h] = print_hour(rt, h, first + h, sheet)?;
+    }
     print_last(rt, &settled)
 }
 

@@ -52,28 +52,22 @@ fn say_change<P: Print>(rt: &P, c: Counts, size: usize, change: [u32; 3]) -> io:
     say_where(rt, c, size, place)
 }
 
-// The first n changes, or all that the report has room for.
-fn say_changes<P: Print>(
-    rt: &P,
-    c: Counts,
-    size: usize,
-    report: &[u32; REPORT],
-    n: usize,
-) -> io::Result<()> {
-    for i in 0..n.min(CHANGES) {
+// Changes of three cells each.
+fn say_changes<P: Print>(rt: &P, c: Counts, size: usize, changes: &[u32]) -> io::Result<()> {
+    for i in 0..changes.len() / 3 {
         let k = 3 * i;
-        say_change(rt, c, size, [report[k], report[k + 1], report[k + 2]])?;
+        say_change(rt, c, size, [changes[k], changes[k + 1], changes[k + 2]])?;
     }
     Ok(())
 }
 
 // A line a change, and how many there are.
-fn say_mended<P: Print>(rt: &P, sheet: &[u8], report: &[u32; REPORT], n: usize) -> io::Result<()> {
+fn say_mended<P: Print>(rt: &P, sheet: &[u8], changes: &[u32]) -> io::Result<()> {
     let Ok(c) = sheet::counting::count_rows(sheet) else {
         return Ok(());
     };
-    say_changes(rt, c, sheet.len(), report, n)?;
-    print!(rt; "changed {n}\n")
+    say_changes(rt, c, sheet.len(), changes)?;
+    print!(rt; "changed {}\n", changes.len() / 3)
 }
 
 fn tell_refused<R: Print + Eprint>(rt: &R, why: Refusal) {
@@ -82,8 +76,8 @@ fn tell_refused<R: Print + Eprint>(rt: &R, why: Refusal) {
     }
 }
 
-fn tell_mended<R: Print + Eprint>(rt: &R, sheet: &[u8], report: &[u32; REPORT], n: usize) {
-    if let Err(why) = say_mended(rt, sheet, report, n) {
+fn tell_mended<R: Print + Eprint>(rt: &R, sheet: &[u8], changes: &[u32]) {
+    if let Err(why) = say_mended(rt, sheet, changes) {
         fail(rt, "desk: the changes cannot be printed", why);
     }
 }
@@ -97,7 +91,7 @@ fn mend_sheet<R: Env + Files + Print + Eprint>(rt: &R, sheet: &[u8], out: usize)
         Ok(n) => {
             if sheet.len() <= copy.len() {
                 if files::write_named(rt, out, &copy[..sheet.len()]) {
-                    tell_mended(rt, sheet, &report, n);
+                    tell_mended(rt, sheet, &report[..3 * n.min(CHANGES)]);
                 }
             }
         }

@@ -27,6 +27,14 @@ struct Lists<'a> {
     money: &'a [i64],
     schedule: &'a [u32],
     amounts: &'a [u32],
+    summaries: &'a [u32],
+}
+
+// A day's sheets one behind another, with the length of each.
+#[derive(Clone, Copy)]
+struct Day<'a> {
+    lengths: &'a [u32; HOURS],
+    sheets: &'a [u8],
 }
 
 // The next number as a count, at most so many.
@@ -61,13 +69,9 @@ fn print_owed<P: Print>(rt: &P, x: i64) -> io::Result<()> {
     }
 }
 
-// Cell k of a list, and as it was before the call past the end.
-fn cell(list: &[u32], k: usize) -> u32 {
-    if k < list.len() { list[k] } else { CELL }
-}
-
-fn owed(list: &[i64], k: usize) -> i64 {
-    if k < list.len() { list[k] } else { OWED }
+// Cell k of a list, and past the end as cells were before the call.
+fn cell<T: Copy>(list: &[T], k: usize, before: T) -> T {
+    if k < list.len() { list[k] } else { before }
 }
 
 // n cells from a on.
@@ -75,7 +79,7 @@ fn print_cells<P: Print>(rt: &P, list: &[u32], a: usize, n: usize) -> io::Result
     requires { (a ≤ 1000000) × (n ≤ 1000000) }
 {
     for i in 0..n {
-        print!(rt; " {}", cell(list, a + i))?;
+        print!(rt; " {}", cell(list, a + i, CELL))?;
     }
     rt.print("\n")
 }
@@ -84,7 +88,7 @@ fn print_money<P: Print>(rt: &P, list: &[i64], a: usize, n: usize) -> io::Result
     requires { (a ≤ 1000000) × (n ≤ 1000000) }
 {
     for i in 0..n {
-        print_owed(rt, owed(list, a + i))?;
+        print_owed(rt, cell(list, a + i, OWED))?;
     }
     rt.print("\n")
 }
@@ -94,21 +98,19 @@ fn kept<T: Copy + PartialEq>(list: &[T], a: usize, e: usize, before: T) -> bool 
     list.iter().take(e).skip(a).all(|x| *x == before)
 }
 
-// The counts of a sheet's rows, 0 where it is refused.
-fn counts(sheet: &[u8]) -> Counts {
-    sheet::read(sheet).unwrap_or(Counts {
-        agents: 0,
-        boundaries: 0,
-        plants: 0,
-        contracts: 0,
-    })
-}
-
-// How many cells there are for n rows of a settled hour, none for a refused one.
-fn needed(settled: bool, n: usize) -> usize
-    ensures { result ≤ 256 }
+// The rows of an hour that has cells in the lists; none of a refused one.
+fn counts(sheet: &[u8], settled: bool) -> Counts
+    ensures { (result.agents ≤ 256) × (result.plants ≤ 256) × (result.contracts ≤ 256) }
 {
-    if settled && n <= 256 { n } else { 0 }
+    match sheet::read(sheet) {
+        Ok(c) if settled && c.agents <= 256 && c.plants <= 256 && c.contracts <= 256 => c,
+        _ => Counts {
+            agents: 0,
+            boundaries: 0,
+            plants: 0,
+            contracts: 0,
+        },
+    }
 }
 
 // The n bytes from a on, or none where they are not there.
@@ -120,39 +122,36 @@ fn stretch(bytes: &[u8], a: usize, n: usize) -> &[u8] {
     }
 }
 
-// The cells of an hour's parts that its n agents, p plants and q contracts ask for.
-fn print_parts<P: Print>(
-    rt: &P,
-    h: usize,
-    n: usize,
-    p: usize,
-    q: usize,
-    lists: Lists<'_>,
-) -> io::Result<()>
-    requires { (h ≤ 24) × (n ≤ 256) × (p ≤ 256) × (q ≤ 256) }
+// The cells of an hour's parts that its rows ask for.
+fn print_parts<P: Print>(rt: &P, h: usize, c: Counts, lists: Lists<'_>) -> io::Result<()>
+    requires { (h ≤ 24) × (c.agents ≤ 256) × (c.plants ≤ 256) × (c.contracts ≤ 256) }
 {
     rt.print("figures")?;
-    print_cells(rt, lists.figures, FIGURES * h, Agent::CELLS * n)?;
+    print_cells(rt, lists.figures, FIGURES * h, Agent::CELLS * c.agents)?;
     rt.print("money")?;
-    print_money(rt, lists.money, MONEY * h, n)?;
+    print_money(rt, lists.money, MONEY * h, c.agents)?;
     rt.print("schedule")?;
-    print_cells(rt, lists.schedule, SCHEDULE * h, p)?;
+    print_cells(rt, lists.schedule, SCHEDULE * h, c.plants)?;
     rt.print("amounts")?;
-    print_cells(rt, lists.amounts, AMOUNTS * h, q)
+    print_cells(rt, lists.amounts, AMOUNTS * h, c.contracts)
 }
 
 // Whether all else in the parts is as it was.
-fn parts_kept(h: usize, n: usize, p: usize, q: usize, lists: Lists<'_>) -> bool
-    requires { (h ≤ 24) × (n ≤ 256) × (p ≤ 256) × (q ≤ 256) }
+fn parts_kept(h: usize, c: Counts, lists: Lists<'_>) -> bool
+    requires { (h ≤ 24) × (c.agents ≤ 256) × (c.plants ≤ 256) × (c.contracts ≤ 256) }
 {
     let f = FIGURES * h;
     let m = MONEY * h;
     let s = SCHEDULE * h;
     let t = AMOUNTS * h;
-    kept(lists.figures, f + Agent::CELLS * n, f + FIGURES, CELL)
-        && kept(lists.money, m + n, m + MONEY, OWED)
-        && kept(lists.schedule, s + p, s + SCHEDULE, CELL)
-        && kept(lists.amounts, t + q, t + AMOUNTS, CELL)
+    kept(
+        lists.figures,
+        f + Agent::CELLS * c.agents,
+        f + FIGURES,
+        CELL,
+    ) && kept(lists.money, m + c.agents, m + MONEY, OWED)
+        && kept(lists.schedule, s + c.plants, s + SCHEDULE, CELL)
+        && kept(lists.amounts, t + c.contracts, t + AMOUNTS, CELL)
 }
 
 // A line that no expected answer has, unless the lists were kept.
@@ -164,41 +163,25 @@ fn tell_unless<P: Print>(rt: &P, kept: bool) -> io::Result<()> {
     }
 }
 
-fn print_hour<P: Print>(
-    rt: &P,
-    h: usize,
-    sheet: &[u8],
-    summaries: &[u32],
-    lists: Lists<'_>,
-) -> io::Result<()>
+fn print_hour<P: Print>(rt: &P, h: usize, sheet: &[u8], lists: Lists<'_>) -> io::Result<()>
     requires { h ≤ 24 }
 {
     rt.print(h)?;
-    print_cells(rt, summaries, 5 * h, 5)?;
-    let settled = cell(summaries, 5 * h) == 0;
-    let c = counts(sheet);
-    let n = needed(settled, c.agents);
-    let p = needed(settled, c.plants);
-    let q = needed(settled, c.contracts);
+    print_cells(rt, lists.summaries, 5 * h, 5)?;
+    let settled = cell(lists.summaries, 5 * h, CELL) == 0;
+    let c = counts(sheet, settled);
     if settled {
-        print_parts(rt, h, n, p, q, lists)?;
+        print_parts(rt, h, c, lists)?;
     }
-    let kept = parts_kept(h, n, p, q, lists);
-    tell_unless(rt, kept)
+    tell_unless(rt, parts_kept(h, c, lists))
 }
 
-fn print_hours<P: Print>(
-    rt: &P,
-    lengths: &[u32; HOURS],
-    sheets: &[u8],
-    summaries: &[u32],
-    lists: Lists<'_>,
-) -> io::Result<()> {
+fn print_hours<P: Print>(rt: &P, day: Day<'_>, lists: Lists<'_>) -> io::Result<()> {
     let mut start = 0;
     for h in 0..HOURS {
-        let n = lengths[h] as usize;
-        let sheet = stretch(sheets, start, n);
-        print_hour(rt, h, sheet, summaries, lists)?;
+        let n = day.lengths[h] as usize;
+        let sheet = stretch(day.sheets, start, n);
+        print_hour(rt, h, sheet, lists)?;
         start = start.saturating_add(n);
     }
     Ok(())
@@ -212,25 +195,21 @@ fn rest_kept(lists: Lists<'_>) -> bool {
         && kept(lists.amounts, AMOUNTS * HOURS, lists.amounts.len(), CELL)
 }
 
-// Settles one day into the fronts of these lists, as long as the input says, and prints the answer.
-fn settle_and_print<P: Print, R: Read>(
-    rt: &P,
-    from: &mut R,
-    lengths: &[u32; HOURS],
-    sheets: &[u8],
-    figures: &mut [u32],
-    money: &mut [i64],
-    schedule: &mut [u32],
-    amounts: &mut [u32],
-) -> io::Result<()> {
+// Settles one day into the fronts of four lists, as long as the input says, and prints the answer.
+fn run_day<P: Print, R: Read>(rt: &P, from: &mut R, number: u64, day: Day<'_>) -> io::Result<()> {
+    let mut figures = [CELL; 10240];
+    let mut money = [OWED; 2048];
+    let mut schedule = [CELL; 2048];
+    let mut amounts = [CELL; 8192];
+    let mut summaries = [CELL; 120];
+    print!(rt; "day {number}\n")?;
     let f = next_size(from, figures.len());
     let m = next_size(from, money.len());
     let s = next_size(from, schedule.len());
     let t = next_size(from, amounts.len());
-    let mut summaries = [CELL; 120];
     capi::whole_day::naomhral_day(
-        sheets,
-        lengths,
+        day.sheets,
+        day.lengths,
         &mut figures[..f],
         &mut money[..m],
         &mut schedule[..s],
@@ -238,37 +217,14 @@ fn settle_and_print<P: Print, R: Read>(
         &mut summaries,
     );
     let lists = Lists {
-        figures,
-        money,
-        schedule,
-        amounts,
+        figures: &figures,
+        money: &money,
+        schedule: &schedule,
+        amounts: &amounts,
+        summaries: &summaries,
     };
-    print_hours(rt, lengths, sheets, &summaries, lists)?;
+    print_hours(rt, day, lists)?;
     tell_unless(rt, rest_kept(lists))
-}
-
-fn run_day<P: Print, R: Read>(
-    rt: &P,
-    from: &mut R,
-    number: u64,
-    lengths: &[u32; HOURS],
-    sheets: &[u8],
-) -> io::Result<()> {
-    let mut figures = [CELL; 10240];
-    let mut money = [OWED; 2048];
-    let mut schedule = [CELL; 2048];
-    let mut amounts = [CELL; 8192];
-    print!(rt; "day {number}\n")?;
-    settle_and_print(
-        rt,
-        from,
-        lengths,
-        sheets,
-        &mut figures,
-        &mut money,
-        &mut schedule,
-        &mut amounts,
-    )
 }
 
 // The next day; false where the input ended.
@@ -290,7 +246,11 @@ fn next_day<P: Print + Eprint, R: Read>(
         let _ = rt.eprint("day_vectors: the input ends within a day\n");
         return Ok(false);
     }
-    run_day(rt, from, number, &lengths, &buf[..n])?;
+    let day = Day {
+        lengths: &lengths,
+        sheets: &buf[..n],
+    };
+    run_day(rt, from, number, day)?;
     Ok(true)
 }
 

@@ -25,7 +25,7 @@ use Rattle.hour.proofs.Balance.{contracted_sellers}
 use Rattle.columns.specs.Columns.{hour_of}
 use Rattle.columns.proofs.Columns.{sound}
 use Rattle.settle.specs.Settled.{Settled}
-use Rattle.book.specs.Book.{hours, most_energy, most_hour_price, holding, entry_verdict}
+use Rattle.book.specs.Book.{hours, most_energy, most_hour_price, hour_with, entry_verdict}
 use Rattle.entry.specs.Entry.{most_word, entry_of}
 use Rattle.entry.proofs.Sheet.{all_fine, entry_is}
 
@@ -78,7 +78,7 @@ module _ (bytes : List ℕ) (before after : Lent) (r : Summary) (done : Settled 
 
   -- the entry is the sheet's own demand, losses, bought kWh and price
   pub entry_true : entry_of bytes r after.figures
-      ≡ Ok (holding (hour_demand hour) (losses hour) (sum (agents hour) (bought hour)) (bolsa_price hour))
+      ≡ Ok (hour_with (hour_demand hour) (losses hour) (sum (agents hour) (bought hour)) (bolsa_price hour))
   entry_true =
       let most = bought_most hour hour_sound hour_balanced in
       let e : min (sum (agents hour) (bought hour)) most_word ≡ sum (agents hour) (bought hour) = omega arith in

@@ -23,7 +23,7 @@ use Rattle.columns.specs.Columns.{hour_of}
 use Rattle.columns.proofs.Columns.{agents_long}
 use Rattle.columns.proofs.Numbers.{Between, in_order, read_between, balance_between, cover_between, room_between}
 use Rattle.settle.specs.Settled.{verdict_of, Settled}
-use Rattle.book.specs.Book.{holding}
+use Rattle.book.specs.Book.{hour_with}
 use Rattle.entry.specs.Entry.{agents_counted, bought_in_all, most_word, entry_of}
 use Rattle.entry.proofs.Counts.{accepted_counted}
 
@@ -81,5 +81,5 @@ module _ (bytes : List ℕ) (before after : Lent) (r : Summary) (done : Settled 
       (λ a l. done.figures.done (cells_per_agent * a + 4) (rw fine (omega arith)) ∙ figure_bought s a)
 
   pub entry_is : entry_of bytes r after.figures
-      ≡ Ok (holding (hour_demand s) (losses s) (min (sum (agents s) (bought s)) most_word) (bolsa_price s))
+      ≡ Ok (hour_with (hour_demand s) (losses s) (min (sum (agents s) (bought s)) most_word) (bolsa_price s))
   entry_is = rw (summary_is, counted, bought_is)

@@ -7,7 +7,7 @@ ghost use Rattle.limits.specs.Limits.{most_agents};
 ghost use Rattle.sheet.specs.Counting.{counting_of};
 ghost use Rattle.entry.specs.Entry.{agents_counted, bought_in_all, most_word, entry_of};
 
-use book::Place;
+use book::Hour;
 use hour::Summary;
 use refusals::Refusal;
 
@@ -29,7 +29,8 @@ fn cell(figures: &[u32], k: usize) -> u32
     figures.get(k).copied().unwrap_or(0)
 }
 
-// What the first n agents bought: the fifth of each one's six cells.
+// What the first n agents bought: the fifth of each one's six cells. The figures may be fewer than n agents have, and then there is no
+// slice of n agents' cells.
 fn all_bought(figures: &[u32], n: usize) -> u64
     requires { n ≤ most_agents }
     ensures { result ≡ bought_in_all figures.now n }
@@ -49,14 +50,13 @@ fn narrow(x: u64) -> u32
 }
 
 // The entry of an hour, from its sheet, the summary that `settle` answered for it, and the figures that `settle` left.
-pub fn entry_of(sheet: &[u8], summary: Summary, figures: &[u32]) -> Result<Place, Refusal>
+pub fn entry_of(sheet: &[u8], summary: Summary, figures: &[u32]) -> Result<Hour, Refusal>
     ensures { result ≡ entry_of sheet.now summary figures.now }
 {
     // the C interface tells the summary by its number, 0 for a settled hour: `Summary` is flat
     if summary.number == 0 {
         let bought = narrow(all_bought(figures, agents_in(sheet)));
-        Ok(Place {
-            held: true,
+        Ok(Hour {
             demand: summary.demand,
             losses: summary.losses,
             bought,

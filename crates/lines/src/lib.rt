@@ -39,7 +39,7 @@ pub fn owed(sold: u32, bought: u32, price: u32) -> i64
     (i64::from(sold) - i64::from(bought)) * i64::from(price.min(Plant::OFFER))
 }
 
-// The lines and the money of n agents.
+// The lines and the money of n agents: callers hold columns with room for the most agents, and n of each are filled.
 pub fn write_lines<'a>(
     kinds: &'a [u32; Agent::MOST],
     shares: &'a [u32; Agent::MOST],

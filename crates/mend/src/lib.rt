@@ -106,7 +106,8 @@ fn count_changes(s: &[u8], c: Counts) -> usize
     n
 }
 
-// Notes a change, where there is one, behind n others, and hands back how many there are then.
+// Notes a change, where there is one, behind n others, and hands back how many there are then: n is what the report holds so far, and no
+// list's length.
 #[tactic(auto, unfolding(crate::specs::Steps::notes, crate::specs::Steps::noted, sums::specs::Sums::pick))]
 fn note(report: &mut [u32], n: usize, place: usize, old: u8, new: u8) -> usize
     requires { (3 * (n + notes old new) ≤ length report.old) × (place < 4294967296) }

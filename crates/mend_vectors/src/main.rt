@@ -15,6 +15,13 @@ const BYTE: u8 = 165;
 
 const CELL: u32 = 2779096485;
 
+// The lent lists, behind a call.
+#[derive(Clone, Copy)]
+struct Lists<'a> {
+    copy: &'a [u8],
+    report: &'a [u32],
+}
+
 // Byte k of a list, and number j of change i in a report; 0 past the end.
 fn byte(s: &[u8], k: usize) -> u32 {
     if k < s.len() { u32::from(s[k]) } else { 0 }
@@ -85,13 +92,8 @@ fn tell_unless<P: Print>(rt: &P, holds: bool, line: &str) -> io::Result<()> {
     if holds { Ok(()) } else { rt.print(line) }
 }
 
-fn print_mended<P: Print>(
-    rt: &P,
-    s: &[u8],
-    copy: &[u8],
-    report: &[u32],
-    changes: u32,
-) -> io::Result<()> {
+fn print_mended<P: Print>(rt: &P, s: &[u8], lists: Lists<'_>, changes: u32) -> io::Result<()> {
+    let Lists { copy, report } = lists;
     let n = changes as usize;
     print!(rt; "mended {n}\n")?;
     print_changes(rt, report, n)?;
@@ -101,60 +103,25 @@ fn print_mended<P: Print>(
     tell_unless(rt, kept, "more was written than was needed\n")
 }
 
-fn print_refusal<P: Print>(
-    rt: &P,
-    number: u32,
-    place: u32,
-    copy: &[u8],
-    report: &[u32],
-) -> io::Result<()> {
+fn print_refusal<P: Print>(rt: &P, number: u32, place: u32, lists: Lists<'_>) -> io::Result<()> {
     print!(rt; "refused {number} {place}\n")?;
-    let kept = kept(copy, 0, BYTE) & kept(report, 0, CELL);
+    let kept = kept(lists.copy, 0, BYTE) & kept(lists.report, 0, CELL);
     tell_unless(rt, kept, "a refusal has written\n")
 }
 
-fn print_case<P: Print>(
-    rt: &P,
-    case: u64,
-    s: &[u8],
-    copy: &mut [u8],
-    report: &mut [u32],
-) -> io::Result<()> {
-    print!(rt; "case {case}\n")?;
+fn print_case<P: Print>(rt: &P, s: &[u8], copy: &mut [u8], report: &mut [u32]) -> io::Result<()> {
     let mut answer = [0u32; 3];
     let number = capi::mending::naomhral_mend(s, copy, report, &mut answer);
     if number == 0 {
-        print_mended(rt, s, copy, report, answer[2])?;
+        print_mended(rt, s, Lists { copy, report }, answer[2])?;
     } else {
-        print_refusal(rt, answer[0], answer[1], copy, report)?;
+        print_refusal(rt, answer[0], answer[1], Lists { copy, report })?;
     }
     let same = number == answer[0];
     tell_unless(rt, same, "the number returned is not the answer's\n")
 }
 
-// Lends just the room that the case says, and says whether there is so much.
-fn lend_front<P: Print + Eprint>(
-    rt: &P,
-    case: u64,
-    s: &[u8],
-    copy: &mut [u8],
-    bytes: usize,
-    report: &mut [u32],
-    cells: usize,
-) -> io::Result<bool> {
-    if copy.len() < bytes {
-        input::cases::complain(rt, Err(Broken::Cut));
-        return Ok(false);
-    }
-    if report.len() < cells {
-        input::cases::complain(rt, Err(Broken::Cut));
-        return Ok(false);
-    }
-    print_case(rt, case, s, &mut copy[..bytes], &mut report[..cells])?;
-    Ok(true)
-}
-
-// The room of the copy in bytes, and that of the report in changes.
+// Lends just the room that the case says, that of the copy in bytes and that of the report in changes, and says whether there is so much.
 fn lend<P: Print + Eprint>(
     rt: &P,
     case: u64,
@@ -165,7 +132,13 @@ fn lend<P: Print + Eprint>(
     let mut copy = [BYTE; 16384];
     let mut report = [CELL; 6144];
     let cells = 3 * (changes as usize);
-    lend_front(rt, case, s, &mut copy, bytes, &mut report, cells)
+    if copy.len() < bytes || report.len() < cells {
+        input::cases::complain(rt, Err(Broken::Cut));
+        return Ok(false);
+    }
+    print!(rt; "case {case}\n")?;
+    print_case(rt, s, &mut copy[..bytes], &mut report[..cells])?;
+    Ok(true)
 }
 
 // The room of copy and report, behind the sheet; and whether to go on.

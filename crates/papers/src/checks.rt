@@ -1,4 +1,5 @@
 // `desk check SHEET STATEMENT`: whether the administrator's statement of an hour could be right, and where it differs from ours.
+use crate::differences::Stated;
 use crate::{differences, faults, meanings};
 use channels::{fail, files, front, say, say_refused};
 use limits::{Agent, Contract, Plant};
@@ -39,7 +40,14 @@ fn check_text<P: Print>(rt: &P, sheet: &[u8], c: Counts, text: &[u8]) -> io::Res
         Ok(price) => {
             let v = checking::check(sheet, price, &figures, &money, &schedule, &amounts);
             say_verdict(rt, v)?;
-            differences::say_all(rt, sheet, price, &figures, &money, &schedule, &amounts)
+            let theirs = Stated {
+                price,
+                figures: &figures,
+                money: &money,
+                schedule: &schedule,
+                amounts: &amounts,
+            };
+            differences::say_all(rt, sheet, theirs)
         }
     }
 }

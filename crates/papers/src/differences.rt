@@ -6,6 +6,16 @@ use channels::{say, say_signed};
 use limits::{Agent, Contract, Plant};
 use std::io;
 
+// A statement of an hour, in lists that hold 0 past the sheet's rows.
+#[derive(Clone, Copy)]
+pub(crate) struct Stated<'a> {
+    pub price: u32,
+    pub figures: &'a [u32; Agent::CELLS * Agent::MOST],
+    pub money: &'a [i64; Agent::MOST],
+    pub schedule: &'a [u32],
+    pub amounts: &'a [u32],
+}
+
 fn say_pair<P: Print>(rt: &P, ours: u32, theirs: u32) -> io::Result<()> {
     print!(rt; " ours {ours} theirs {theirs}\n")
 }
@@ -65,16 +75,10 @@ fn say_money<P: Print>(rt: &P, a: usize, ours: i64, theirs: i64) -> io::Result<(
 }
 
 // Each agent's figures and its money.
-fn say_agents<P: Print>(
-    rt: &P,
-    our_figures: &[u32; Agent::CELLS * Agent::MOST],
-    their_figures: &[u32; Agent::CELLS * Agent::MOST],
-    our_money: &[i64; Agent::MOST],
-    their_money: &[i64; Agent::MOST],
-) -> io::Result<()> {
+fn say_agents<P: Print>(rt: &P, ours: Stated<'_>, theirs: Stated<'_>) -> io::Result<()> {
     for a in 0..Agent::MOST {
-        say_figures(rt, a, our_figures, their_figures)?;
-        say_money(rt, a, our_money[a], their_money[a])?;
+        say_figures(rt, a, ours.figures, theirs.figures)?;
+        say_money(rt, a, ours.money[a], theirs.money[a])?;
     }
     Ok(())
 }
@@ -96,33 +100,25 @@ fn say_rows<P: Print>(
     Ok(())
 }
 
-// Of a statement in lists that hold 0 past the sheet's rows, as ours do: there nothing differs. An hour that we don't settle has nothing
-// to differ from.
-pub(crate) fn say_all<P: Print>(
-    rt: &P,
-    sheet: &[u8],
-    price: u32,
-    figures: &[u32; Agent::CELLS * Agent::MOST],
-    money: &[i64; Agent::MOST],
-    schedule: &[u32; Plant::MOST],
-    amounts: &[u32; Contract::MOST],
-) -> io::Result<()> {
-    let mut our_figures = [0u32; Agent::CELLS * Agent::MOST];
-    let mut our_money = [0i64; Agent::MOST];
-    let mut our_schedule = [0u32; Plant::MOST];
-    let mut our_amounts = [0u32; Contract::MOST];
-    let r = settle::settle(
-        sheet,
-        &mut our_figures,
-        &mut our_money,
-        &mut our_schedule,
-        &mut our_amounts,
-    );
+// Past the sheet's rows, where our lists hold 0 too, nothing differs. An hour that we don't settle has nothing to differ from.
+pub(crate) fn say_all<P: Print>(rt: &P, sheet: &[u8], theirs: Stated<'_>) -> io::Result<()> {
+    let mut figures = [0u32; Agent::CELLS * Agent::MOST];
+    let mut money = [0i64; Agent::MOST];
+    let mut schedule = [0u32; Plant::MOST];
+    let mut amounts = [0u32; Contract::MOST];
+    let r = settle::settle(sheet, &mut figures, &mut money, &mut schedule, &mut amounts);
     if r.number != 0 {
         return Ok(());
     }
-    say_price(rt, r.price, price)?;
-    say_agents(rt, &our_figures, figures, &our_money, money)?;
-    say_rows(rt, "plant", "schedule", &our_schedule, schedule)?;
-    say_rows(rt, "contract", "amount", &our_amounts, amounts)
+    let ours = Stated {
+        price: r.price,
+        figures: &figures,
+        money: &money,
+        schedule: &schedule,
+        amounts: &amounts,
+    };
+    say_price(rt, ours.price, theirs.price)?;
+    say_agents(rt, ours, theirs)?;
+    say_rows(rt, "plant", "schedule", ours.schedule, theirs.schedule)?;
+    say_rows(rt, "contract", "amount", ours.amounts, theirs.amounts)
 }

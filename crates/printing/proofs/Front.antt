@@ -9,13 +9,15 @@ use native.Mathlib.Decide.{dec_lt}
 use native.Mathlib.Numerals.{add-one}
 use lib.Dec.{ltb, eqb}
 use lib.IntN.{ℤ, pos, nat_abs}
-use lib.ListN.{length, get_or, length-append, get_or-append}
+use lib.ListN.{length, take, get_or, length-append, get_or-append}
+use Rattle.std.proofs.lemmas.List.{length-take-le, get_or-take}
 use Rattle.sums.specs.Lists.{at, Filled}
 use Rattle.sums.proofs.Fill.{filled_count}
 use Rattle.hour.specs.declared.Summary.{Summary}
 use Rattle.printing.specs.Text.{spell, decimal, minus, signed, spaced, lines_to}
 use Rattle.printing.specs.Page.{hour_word, line_numbers, line_of, hour_text, refused_text, page_of}
 use Rattle.printing.specs.Put.{hour_head, head_of, lines_in, Appended}
+use Rattle.printing.proofs.Text.{lines_same}
 
 abbrev Stands : (List ℕ → List ℕ) → Type 0
 Stands f = (rest : List ℕ) → f rest ≡ f [] ++ rest
@@ -118,24 +120,36 @@ module _ (kinds figures : List ℕ) (money : List ℤ) where
       go true = hour_stands r (lines (length kinds))
       go false = sym (append-nil (refused_text r))
 
+  -- the lines of the first n agents alone
+  pub lines_front : (n : ℕ)
+      → n ≤ length kinds
+      → lines_to (line_of (take n kinds) figures money) (length (take n kinds)) []
+      ≡ lines_to (line_of kinds figures money) n []
+  unfolding line_of
+  lines_front n h =
+      let front = take n kinds in
+      ap (λ (k : ℕ). lines_to (line_of front figures money) k []) (length-take-le n kinds h)
+      ∙ lines_same (line_of front figures money) (line_of kinds figures money) n [] (λ i l r. rw (get_or-take n kinds i 0 l))
+
+  -- of the first n agents alone, of all or of none
   pub page_text_lem : (r : Summary) (n : ℕ)
       → n ≡ lines_in r (length kinds)
-      → page_of r kinds figures money ≡ head_of r ++ lines_to (line_of kinds figures money) n []
-  page_text_lem r n e = rw e (page_front r)
+      → n ≤ length kinds
+      → page_of r kinds figures money
+      ≡ head_of r ++ lines_to (line_of (take n kinds) figures money) (length (take n kinds)) []
+  page_text_lem r n e h =
+      let whole : page_of r kinds figures money ≡ head_of r ++ lines_to (line_of kinds figures money) n [] = rw e (page_front r) in
+      whole ∙ ap (λ (l : List ℕ). head_of r ++ l) (sym (lines_front n h))
 
-  pub page_long : (r : Summary) (n : ℕ)
+  pub page_size : (r : Summary) (n h k : ℕ)
       → n ≡ lines_in r (length kinds)
-      → length (page_of r kinds figures money) ≡ length (head_of r) + length (lines_to (line_of kinds figures money) n [])
-  page_long r n e =
-      ap length (page_text_lem r n e) ∙ length-append (head_of r) (lines_to (line_of kinds figures money) n [])
-
-pub lines_most : (r : Summary) (agents : ℕ) → lines_in r agents ≤ agents
-unfolding lines_in
-lines_most r agents = go (eqb r.number 0)
-  where
-    go : (b : Bool) → cond b agents 0 ≤ agents
-    go true = omega arith
-    go false = omega arith
+      → n ≤ length kinds
+      → h ≡ length (head_of r)
+      → k ≡ length (lines_to (line_of (take n kinds) figures money) (length (take n kinds)) [])
+      → h + k ≡ length (page_of r kinds figures money)
+  page_size r n h k e f p q =
+      let text = ap length (page_text_lem r n e f) in
+      omega (arith, length-append (head_of r) (lines_to (line_of (take n kinds) figures money) (length (take n kinds)) []))
 
 -- ---- a text put behind the bytes that are filled
 

@@ -4,30 +4,23 @@ use Rattle.refusals.specs.declared.Refusal.{Refusal}
 use Prim.Native.Nat.{ℕ, ◌-◌, ◌*◌, ◌≤◌, ◌<◌}
 use mathlib.Core.Path.{◌≡◌, refl, ap, sym, ◌∙◌}
 use mathlib.Core.Bool.{true, false, ◌&&◌}
-use mathlib.Core.List.{List, [], ◌∷◌}
+use mathlib.Core.List.{List}
 use native.Mathlib.Omega.{arith}
-use borrow.Author.Tests.{leb-true, le-leb, lt-leb}
+use borrow.Author.Tests.{le-leb, lt-leb}
 use lib.Dec.{leb}
 use lib.IntN.{ℤ}
 use lib.ListN.{length, drop, length-drop}
 use Rattle.sums.specs.Lists.{at, Filled}
-use Rattle.sums.proofs.Tests.{all_true}
 use Rattle.sums.proofs.Fill.{filled_none, filled_unique}
 use Rattle.refusals.specs.Refusals.{bad_layout, no_room, refusal}
 use Rattle.refusals.specs.Refusals.{Verdict}
 use Rattle.limits.specs.Limits.{most_agents}
 use Rattle.printing.specs.Page.{print_verdict, Prints}
-use Rattle.printing.specs.Put.{Listed}
 
 -- any two outcomes that meet the promise are equal
 pub one_outcome : {v : Verdict} {text before : List ℕ} {r r' : Result ℕ Refusal} {after after' : List ℕ}
     → Prints v text before r after → Prints v text before r' after' → (r ≡ r') × (after ≡ after')
 one_outcome p q = (p.answer ∙ sym q.answer, filled_unique 0 _ _ _ _ _ p.bytes q.bytes)
-
-pub listed : (k f m : ℕ) → (leb k most_agents && leb (6 * k) f && leb k m) ≡ true → Listed k f m
-listed k f m e =
-    let all = all_true (leb k most_agents) (leb (6 * k) f ∷ leb k m ∷ []) e in
-    record { few = leb-true _ _ all.0; cells = leb-true _ _ all.1.0; owed = leb-true _ _ all.1.1.0 }
 
 module _ (kinds figures : List ℕ) (money : List ℤ) (text before : List ℕ) where
   pub bad_lists : (leb (length kinds) most_agents && leb (6 * length kinds) (length figures)

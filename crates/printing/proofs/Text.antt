@@ -65,3 +65,11 @@ pub lines_none : (g : ℕ → List ℕ → List ℕ) (k : ℕ) (rest : List ℕ)
 unfolding lines_to
 lines_none g zero rest h = refl
 lines_none g (suc k) rest h = absurd (omega arith)
+
+-- lines that are alike below n
+pub lines_same : (g h : ℕ → List ℕ → List ℕ) (n : ℕ) (rest : List ℕ) → ((i : ℕ) → i < n → (r : List ℕ) → g i r ≡ h i r)
+    → lines_to g n rest ≡ lines_to h n rest
+unfolding lines_to
+lines_same g h zero rest e = refl
+lines_same g h (suc n) rest e =
+    lines_same g h n (g n rest) (λ i l. e i (omega arith)) ∙ ap (lines_to h n) (e n (omega arith) rest)

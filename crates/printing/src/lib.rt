@@ -9,10 +9,19 @@ ghost use Rattle.limits.specs.Limits.{most_agents};
 ghost use Rattle.printing.specs.Text.{spell, decimal, signed, spaced, lines_to};
 ghost use Rattle.printing.specs.Page.{line_of, refused_text, page_of, print_verdict, Prints};
 ghost use Rattle.printing.specs.Put.{Put, hour_head, head_of, lines_in, Listed, Appended};
+ghost use Rattle.printing.specs.Agents.{line_in, lines_in_all};
 
 use hour::Summary;
 use limits::Agent;
 use refusals::Refusal;
+
+// What a page tells of the agents of an hour.
+#[derive(Clone, Copy)]
+struct Agents<'a> {
+    kinds: &'a [u32],
+    figures: &'a [u32],
+    money: &'a [i64],
+}
 
 // One byte before byte `at`.
 fn put_byte(s: &mut [u8], at: usize, b: u8) -> usize
@@ -79,26 +88,21 @@ fn put_word(s: &mut [u8], at: usize, word: &[u8]) -> usize
 }
 
 // Agent a's line, before byte `at`.
-fn put_line(
-    s: &mut [u8],
-    at: usize,
-    kinds: &[u32],
-    figures: &[u32],
-    money: &[i64],
-    a: usize,
-) -> usize
-    requires { (169 ≤ at) × (at ≤ length s.old) × (a < length kinds.now) × (length kinds.now ≤ most_agents)
-        × (6 * length kinds.now ≤ length figures.now) × (length kinds.now ≤ length money.now) }
-    ensures { Put (line_of kinds.now figures.now money.now a (drop at s.old))
-        s.new at 169 result }
+#[tactic(auto, unfolding(crate::specs::Page::line_of))]
+fn put_line(s: &mut [u8], at: usize, agents: Agents, a: usize) -> usize
+    requires room { (169 ≤ at) × (at ≤ length s.old) }
+    requires listed { Listed (length agents.kinds.now) (length agents.figures.now) (length agents.money.now) }
+    requires a_in { a < length agents.kinds.now }
+    ensures { Put (line_in agents.entry a (drop at s.old)) s.new at 169 result }
 {
     let i = put_byte(s, at, b'\n');
-    let owed = money[a];
+    let owed = agents.money[a];
     let j = put_signed(s, i, owed);
     let k = Agent::CELLS * a;
+    let figures = agents.figures;
     let numbers = [
         a as u32,
-        kinds[a],
+        agents.kinds[a],
         figures[k + 1],
         figures[k + 2],
         figures[k + 3],
@@ -150,7 +154,7 @@ fn put_head(s: &mut [u8], r: Summary) -> usize
 // How many lines are behind it: one an agent, and none behind a refusal.
 #[tactic(auto, unfolding(crate::specs::Put::lines_in))]
 fn lines_in(r: Summary, agents: usize) -> usize
-    ensures { result ≡ lines_in r agents }
+    ensures { (result ≡ lines_in r agents) × (result ≤ agents) }
 {
     if r.number == 0 { agents } else { 0 }
 }
@@ -169,22 +173,22 @@ fn head_length(r: Summary) -> usize
     HEAD - put_head(&mut s, r)
 }
 
-fn line_length(kinds: &[u32], figures: &[u32], money: &[i64], a: usize) -> usize
-    requires { Listed (length kinds.now) (length figures.now) (length money.now) × (a < length kinds.now) }
-    ensures { (result ≡ length (line_of kinds.now figures.now money.now a [])) × (result ≤ 169) }
+fn line_length(agents: Agents, a: usize) -> usize
+    requires listed { Listed (length agents.kinds.now) (length agents.figures.now) (length agents.money.now) }
+    requires a_in { a < length agents.kinds.now }
+    ensures { (result ≡ length (line_in agents.entry a [])) × (result ≤ 169) }
 {
     let mut s = [0u8; LINE];
-    LINE - put_line(&mut s, LINE, kinds, figures, money, a)
+    LINE - put_line(&mut s, LINE, agents, a)
 }
 
-fn lines_length(kinds: &[u32], figures: &[u32], money: &[i64], n: usize) -> usize
-    requires { Listed (length kinds.now) (length figures.now) (length money.now) × (n ≤ length kinds.now) }
-    ensures { (result ≡ length (lines_to (line_of kinds.now figures.now money.now) n []))
-        × (result ≤ 169 * n) }
+fn lines_length(agents: Agents) -> usize
+    requires listed { Listed (length agents.kinds.now) (length agents.figures.now) (length agents.money.now) }
+    ensures { (result ≡ length (lines_in_all agents.entry)) × (result ≤ 169 * length agents.entry.kinds.now) }
 {
     let mut k = 0;
-    for a in 0..n {
-        k += line_length(kinds, figures, money, a);
+    for a in 0..agents.kinds.len() {
+        k += line_length(agents, a);
     }
     k
 }
@@ -209,36 +213,29 @@ fn write_head(r: Summary, out: &mut [u8])
 }
 
 // Agent a's line from byte k on; handed back is where it ends.
-fn write_line(
-    kinds: &[u32],
-    figures: &[u32],
-    money: &[i64],
-    a: usize,
-    out: &mut [u8],
-    k: usize,
-) -> usize
-    requires listed { Listed (length kinds.now) (length figures.now) (length money.now) × (a < length kinds.now) }
-    requires a_in_bounds { k + length (line_of kinds.now figures.now money.now a []) ≤ length out.old }
-    ensures { (result ≡ k + length (line_of kinds.now figures.now money.now a []))
-        × Appended (line_of kinds.now figures.now money.now a []) k out.old
-        out.new }
+fn write_line(agents: Agents, a: usize, out: &mut [u8], k: usize) -> usize
+    requires listed { Listed (length agents.kinds.now) (length agents.figures.now) (length agents.money.now) }
+    requires a_in { a < length agents.kinds.now }
+    requires room { k + length (line_of agents.kinds.now agents.figures.now agents.money.now a []) ≤ length out.old }
+    ensures { (result ≡ k + length (line_in agents.entry a []))
+        × Appended (line_in agents.entry a []) k out.old out.new }
 {
     let mut s = [0u8; LINE];
-    let from = put_line(&mut s, LINE, kinds, figures, money, a);
+    let from = put_line(&mut s, LINE, agents, a);
     copy_out(&s[from..], out, k);
     k + (LINE - from)
 }
 
-// The first n lines, from byte `from` on.
-fn write_lines(kinds: &[u32], figures: &[u32], money: &[i64], n: usize, out: &mut [u8], from: usize)
-    requires listed { Listed (length kinds.now) (length figures.now) (length money.now) × (n ≤ length kinds.now) }
-    requires n_in_bounds { from + length (lines_to (line_of kinds.now figures.now money.now) n []) ≤ length out.old }
-    ensures { Appended (lines_to (line_of kinds.now figures.now money.now) n []) from
-        out.old out.new }
+// A line an agent, from byte `from` on.
+fn write_lines(agents: Agents, out: &mut [u8], from: usize)
+    requires listed { Listed (length agents.kinds.now) (length agents.figures.now) (length agents.money.now) }
+    requires room { from + length (lines_to (line_of agents.kinds.now agents.figures.now agents.money.now) (length agents.kinds.now) [])
+        ≤ length out.old }
+    ensures { Appended (lines_in_all agents.entry) from out.old out.new }
 {
     let mut k = from;
-    for a in 0..n {
-        k = write_line(kinds, figures, money, a, out, k);
+    for a in 0..agents.kinds.len() {
+        k = write_line(agents, a, out, k);
     }
 }
 
@@ -268,8 +265,13 @@ pub fn print(
         });
     }
     let n = lines_in(r, kinds.len());
+    let agents = Agents {
+        kinds: &kinds[..n],
+        figures,
+        money,
+    };
     let head = head_length(r);
-    let size = head + lines_length(kinds, figures, money, n);
+    let size = head + lines_length(agents);
     if out.len() < size {
         return Err(Refusal {
             number: Refusal::ROOM,
@@ -277,6 +279,6 @@ pub fn print(
         });
     }
     write_head(r, out);
-    write_lines(kinds, figures, money, n, out, head);
+    write_lines(agents, out, head);
     Ok(size)
 }

@@ -29,8 +29,7 @@ use Rattle.columns.proofs.Columns.{contracts_long, buyer_at, deal_at, price_at_l
 use Rattle.hour.specs.Sheet.{Sheet}
 use Rattle.hour.specs.Sound.{Sound}
 use Rattle.reasons.specs.Reasons.{contract_reason_by}
-use Rattle.reasons.specs.Parts.{part_total, reason_in}
-use Rattle.reasons.specs.declared.passes.Part.{Part}
+use Rattle.reasons.specs.Parts.{ahead, firm, cheaper, beside, part_total, reason_in}
 
 module _ (s : List ℕ) (c : Counts) (e : read_of s ≡ Ok c) (i : ℕ) (l : i < c.contracts) where
   abbrev sheet : Sheet
@@ -109,7 +108,7 @@ module _ (s : List ℕ) (c : Counts) (e : read_of s ≡ Ok c) (i : ℕ) (l : i <
       ap (λ (t : Bool). ltb y me.price || (eqb y me.price && (ltb k me.kind || (eqb k me.kind && t))))
       (place_order j q)
 
-  ahead_is : ahead_of own (place i) ≡ part_total s c Part.Ahead me i
+  ahead_is : ahead_of own (place i) ≡ part_total s c me.buyer (ahead me i)
   unfolding ahead_of part_total
   ahead_is =
       rw (kind_is, price_is)
@@ -119,7 +118,7 @@ module _ (s : List ℕ) (c : Counts) (e : read_of s ≡ Ok c) (i : ℕ) (l : i <
       (ap (λ (t : Bool). pick (ltb (contract_at s c j).kind demanded && t) (contract_at s c j).quantity)
       (same_stand (contract_at s c j).price (contract_at s c j).kind j q))))
 
-  firm_is : sum (count own) (λ k. pick (ltb (kind own k) demanded) (quantity own k)) ≡ part_total s c Part.Firm me i
+  firm_is : sum (count own) (λ k. pick (ltb (kind own k) demanded) (quantity own k)) ≡ part_total s c me.buyer firm
   unfolding part_total
   firm_is =
       own_pass (λ k j. ltb k.kind demanded) (λ kd x q t. pick (ltb kd demanded) q)
@@ -157,18 +156,18 @@ module _ (s : List ℕ) (c : Counts) (e : read_of s ≡ Ok c) (i : ℕ) (l : i <
       ))
       go (no z) = omega arith
 
-  rest_is : (d : ℕ) → rest_of own d ≡ d - part_total s c Part.Firm me i
+  rest_is : (d : ℕ) → rest_of own d ≡ d - part_total s c me.buyer firm
   rest_is d = rest_total own d own_few own_known ∙ ap (λ (x : ℕ). d - x) firm_is
 
   -- ---- kind 3
-  cheaper_is : cheaper_of own me.price ≡ part_total s c Part.Cheaper me i
+  cheaper_is : cheaper_of own me.price ≡ part_total s c me.buyer (cheaper me)
   unfolding cheaper_of part_total
   cheaper_is =
       own_pass (λ k j. eqb k.kind demanded && ltb k.price me.price)
       (λ kd x q t. pick (eqb kd demanded && ltb x me.price) q)
       (λ j k q. rw (deal_at s c j k, price_at_lem s c j k, quantity_at_lem s c j k))
 
-  group_is : total (group_of own me.price) ≡ part_total s c Part.Group me i
+  group_is : total (group_of own me.price) ≡ part_total s c me.buyer (beside me)
   unfolding part_total
   group_is =
       group_total own me.price

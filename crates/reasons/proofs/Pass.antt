@@ -1,38 +1,32 @@
--- What a pass over the contract rows adds up, and that all rows of a sheet fit: each adds at most one quantity. Assumes nothing.
-use Rattle.std.specs.Prelude.{Ok}
-use Prim.Native.Nat.{ℕ, ◌≤◌, ◌<◌, ◌+◌}
+-- What one row adds to a pass over the contract rows: at most one quantity. Assumes nothing.
+use Rattle.std.specs.Prelude.{Ok, Bool, true, false, eqb}
+use Prim.Native.Nat.{ℕ, ◌≤◌, ◌<◌}
 use native.Mathlib.Omega.{arith}
 use mathlib.Core.List.{List}
-use mathlib.Core.Path.{◌≡◌}
+use mathlib.Core.Path.{◌≡◌, ap, ◌∙◌}
 use Rattle.limits.specs.Limits.{most_quantity}
 use Rattle.limits.specs.declared.Contract.{Contract}
-use Rattle.octets.specs.Bytes.{words_at}
-use Rattle.rows.specs.Rows.{contract_of}
-use Rattle.sums.specs.Sums.{sum}
-use Rattle.sums.proofs.Sums.{sum_most}
-use Rattle.sums.proofs.Picks.{pick_le}
+use Rattle.sums.specs.Sums.{pick}
+use Rattle.sums.proofs.Picks.{pick_true, pick_false, pick_zero, pick_both, pick_eq, pick_ne}
+use Rattle.sheet.specs.Asking.{contract_at}
 use Rattle.sheet.specs.Reading.{read_of}
 use Rattle.sheet.specs.declared.Counts.{Counts}
-use Rattle.sheet.proofs.Accepted.{accepted_few, accepted_contract}
-use Rattle.reasons.specs.Parts.{counted, counted_part}
-use Rattle.reasons.specs.declared.passes.Part.{Part}
+use Rattle.sheet.proofs.Accepted.{accepted_contract}
+use Rattle.reasons.specs.Parts.{counted_part}
 
--- the contract in row j of the section that begins at row `start`, and what a pass adds of it
-abbrev pub contract : (bytes : List ℕ) (start : ℕ) → ℕ → Contract
-contract bytes start j = contract_of (words_at bytes (start + j))
+pub row_small : (bytes : List ℕ) (c : Counts) → read_of bytes ≡ Ok c → (j : ℕ) → j < c.contracts
+    → (contract_at bytes c j).quantity ≤ most_quantity
+row_small bytes c e j l = omega (arith, (accepted_contract bytes c e j l).fits.quantity)
 
-abbrev pub added : (bytes : List ℕ) → Part → Contract → (i start : ℕ) → ℕ → ℕ
-added bytes part me i start j = counted_part part me i (contract bytes start j) j
+module _ (b : ℕ) (t : Contract → ℕ → Bool) (k : Contract) (j : ℕ) where
+  abbrev parts : counted_part b t k j ≡ pick (eqb k.buyer b) (pick (t k j) k.quantity)
+  parts = pick_both (eqb k.buyer b) (t k j) k.quantity
 
-module _ (bytes : List ℕ) (c : Counts) (e : read_of bytes ≡ Ok c) (part : Part) (me : Contract) (i : ℕ) where
-  abbrev f : ℕ → ℕ
-  f = added bytes part me i (c.agents + c.boundaries + c.plants)
+  pub taken : k.buyer ≡ b → t k j ≡ true → counted_part b t k j ≡ k.quantity
+  taken e f = parts ∙ pick_eq k.buyer b _ e ∙ pick_true (t k j) k.quantity f
 
-  most : (j : ℕ) → j < c.contracts → f j ≤ most_quantity
-  most j l =
-      let k = contract bytes (c.agents + c.boundaries + c.plants) j in
-      omega (arith, (accepted_contract bytes c e j l).fits.quantity, pick_le (counted part me i k j) k.quantity)
+  pub left_out : t k j ≡ false → counted_part b t k j ≡ 0
+  left_out f = parts ∙ ap (λ (x : ℕ). pick (eqb k.buyer b) x) (pick_false (t k j) k.quantity f) ∙ pick_zero _
 
-  pub row_fits : (j : ℕ) → j < c.contracts → sum j f + f j ≤ 4294967295
-  row_fits j l =
-      omega (arith, most j l, sum_most j most_quantity f (λ k m. most k (omega arith)), (accepted_few bytes c e).contracts)
+  pub of_another : (k.buyer ≡ b → ⊥) → counted_part b t k j ≡ 0
+  of_another n = parts ∙ pick_ne k.buyer b _ n

@@ -20,10 +20,9 @@ use Rattle.hour.specs.Sheet.{agents, plants, contracts, retails}
 use Rattle.hour.specs.Sound.{ContractSound}
 use Rattle.hour.specs.Balance.{commercial}
 use Rattle.hour.specs.Lines.{scheduled, bolsa_price, amount, own}
-use Rattle.hour.specs.declared.Summary.{Summary}
 use Rattle.reasons.specs.Reasons.{plant_reason_by, plant_reason, plant_case, contract_reason}
 use Rattle.reasons.specs.Reasons.{contract_case, plant_why, contract_why}
-use Rattle.reasons.specs.Parts.{HourSettled, reason_in}
+use Rattle.reasons.specs.Parts.{HourSettled, price_by, reason_in}
 use Rattle.reasons.specs.declared.PlantReason.{PlantReason}
 use Rattle.reasons.specs.declared.PlantCase.{PlantCase}
 use Rattle.reasons.specs.declared.ContractReason.{ContractReason}
@@ -92,15 +91,15 @@ module _ (bytes : List ℕ) (c : Counts) (e : read_of bytes ≡ Ok c)
   contract_there l = omega (arith, contract_count)
 
   -- what the lists of the settlement hold of it, and of a buyer
-  module _ (os s s' a a' : List ℕ) (r : Summary) (w : HourSettled bytes os s s' a a' r) where
+  module _ (os s s' a a' : List ℕ) (x : ℕ) (w : HourSettled bytes os s s' a a' (Ok x)) where
     pub schedule_at : i < c.plants → at s' i ≡ scheduled (hour_of bytes) i
     schedule_at l = w.schedule.done i (rw fine (plant_there l))
 
     pub amount_at_lem : i < c.contracts → at a' i ≡ amount (hour_of bytes) i
     amount_at_lem l = w.amounts.done i (rw fine (contract_there l))
 
-    pub price_told : r.price ≡ bolsa_price (hour_of bytes)
-    price_told = ap (λ (x : Summary). x.price) (rw fine at w.answer)
+    pub price_told : x ≡ bolsa_price (hour_of bytes)
+    price_told = let e : Ok x ≡ price_by (Ok tt) (hour_of bytes) = rw fine at w.answer in cc
 
     -- the own energy of its buyer, who is a retailer
     pub demand_at : i < c.contracts → (b : ℕ) → b ≡ (contract_at bytes c i).buyer → at os b ≡ commercial (hour_of bytes) b

@@ -9,7 +9,6 @@ ghost use Rattle.reasons.specs.Reasons.{plant_reason_number, contract_reason_num
 ghost use Rattle.balance.specs.Balances.{zeros};
 ghost use Rattle.reasons.specs.Parts.{HourSettled};
 
-use hour::Summary;
 use limits::{Agent, Contract, Plant};
 use refusals::Refusal;
 use sheet::Counts;
@@ -20,15 +19,15 @@ mod passes;
 #[derive(Clone, Copy)]
 pub enum PlantReason {
     // nothing available
-    Nothing,
+    Nothing = 1,
     // scheduled to the full
-    Full,
+    Full = 2,
     // only its must-run
-    Must,
+    Must = 3,
     // partly scheduled, the last one needed
-    Last,
+    Last = 4,
     // not reached
-    Beyond,
+    Beyond = 5,
 }
 
 // The reason with the plant's figures in kWh, its offer price and the bolsa price.
@@ -85,15 +84,10 @@ pub struct ContractCase {
 pub fn plant_number(reason: PlantReason) -> u32
     ensures { result ≡ plant_reason_number reason }
 {
-    match reason {
-        PlantReason::Nothing => 1,
-        PlantReason::Full => 2,
-        PlantReason::Must => 3,
-        PlantReason::Last => 4,
-        PlantReason::Beyond => 5,
-    }
+    reason as u32
 }
 
+// the reasons of a contract carry figures: such variants carry no numbers
 pub fn contract_number(reason: ContractReason) -> u32
     ensures { result ≡ contract_reason_number reason }
 {
@@ -128,15 +122,15 @@ fn judge_plant(scheduled: u32, must: u32, available: u32) -> PlantReason
 }
 
 // Weighs an accepted sheet and trades, as `settle_columns` does (`trade` says why it has two callers), with lists of our own, which have
-// room for every sheet; no agent's line is asked for. Schedule, amounts and each agent's own energy are kept: a buyer's is its commercial
-// demand.
+// room for every sheet; no agent's line is asked for. The bolsa price is handed back, or the sheet's refusal. Schedule, amounts and each
+// agent's own energy are kept: a buyer's is its commercial demand.
 fn settle_hour(
     bytes: &[u8],
     c: Counts,
     own: &mut [u32; Agent::MOST],
     schedule: &mut [u32],
     amounts: &mut [u32],
-) -> Summary
+) -> Result<u32, Refusal>
     requires bytes_value { read_of bytes.now ≡ Ok c }
     requires own_value { (own.old ≡ zeros) × (most_plants ≤ length schedule.old) × (most_contracts ≤ length amounts.old) }
     ensures { HourSettled bytes.now own.new schedule.old schedule.new
@@ -155,8 +149,8 @@ fn settle_hour(
         own,
         &mut imports,
         true,
-    );
-    settle::trade(bytes, c, w, &mut held, own, schedule, amounts)
+    )?;
+    Ok(settle::trade(bytes, c, Ok(w), &mut held, own, schedule, amounts).price)
 }
 
 // Of an accepted sheet.
@@ -167,14 +161,7 @@ fn why_plant_read(bytes: &[u8], c: Counts, plant: u32) -> Result<PlantCase, Refu
     let mut schedule = [0u32; Plant::MOST];
     let mut amounts = [0u32; Contract::MOST];
     let mut own = [0u32; Agent::MOST];
-    let hour = settle_hour(bytes, c, &mut own, &mut schedule, &mut amounts);
-    // the C interface tells the summary by its number, 0 for a settled hour: `Summary` is flat
-    if hour.number != 0 {
-        return Err(Refusal {
-            number: hour.number,
-            place: hour.place,
-        });
-    }
+    let price = settle_hour(bytes, c, &mut own, &mut schedule, &mut amounts)?;
     let i = plant as usize;
     if c.plants <= i {
         return Err(Refusal {
@@ -189,7 +176,7 @@ fn why_plant_read(bytes: &[u8], c: Counts, plant: u32) -> Result<PlantCase, Refu
         available: p.availability,
         must: p.must,
         offer: p.price,
-        price: hour.price,
+        price,
     })
 }
 
@@ -209,14 +196,7 @@ fn why_contract_read(bytes: &[u8], c: Counts, contract: u32) -> Result<ContractC
     let mut schedule = [0u32; Plant::MOST];
     let mut amounts = [0u32; Contract::MOST];
     let mut own = [0u32; Agent::MOST];
-    let hour = settle_hour(bytes, c, &mut own, &mut schedule, &mut amounts);
-    // the C interface tells the summary by its number, 0 for a settled hour: `Summary` is flat
-    if hour.number != 0 {
-        return Err(Refusal {
-            number: hour.number,
-            place: hour.place,
-        });
-    }
+    settle_hour(bytes, c, &mut own, &mut schedule, &mut amounts)?;
     let j = contract as usize;
     if c.contracts <= j {
         return Err(Refusal {

@@ -1,26 +1,14 @@
 // The reason of one contract: what stands before it, and what its price group asks, each summed in a pass over the contract rows.
-ghost use Rattle.std.specs.Prelude.{◌≡◌};
+ghost use Rattle.std.specs.Prelude.{◌≡◌, ℕ, ◌<◌, Bool};
 ghost use Rattle.deals.specs.Deals.{stands};
+ghost use Rattle.sheet.specs.Asking.{contract_at};
 ghost use Rattle.sheet.specs.Reading.{read_of};
 ghost use Rattle.reasons.specs.Reasons.{conditional_reason, demanded_reason};
-ghost use Rattle.reasons.specs.Parts.{counted, counted_part, part_total, reason_in};
+ghost use Rattle.reasons.specs.Parts.{part_total, reason_in};
 
 use crate::{Ahead, ContractReason, Group};
 use limits::Contract;
 use sheet::Counts;
-
-// Which of a buyer's rows a pass adds up.
-#[derive(Clone, Copy)]
-pub(crate) enum Part {
-    // kinds 1 and 2 ahead of the contract
-    Ahead,
-    // all of kinds 1 and 2
-    Firm,
-    // kind 3 below its price
-    Cheaper,
-    // kind 3 at its price
-    Group,
-}
 
 // Row j stands before row i: by rising price, kind 1 first at equal price, then the lower row.
 #[tactic(auto, unfolding(deals::specs::Deals::stands))]
@@ -31,40 +19,22 @@ fn stands_before(k: Contract, j: usize, me: Contract, i: usize) -> bool
         | ((k.price == me.price) & ((k.kind < me.kind) | ((k.kind == me.kind) & (j < i))))
 }
 
-// Whether the pass of the contract `me` in row i adds up the row j.
-fn counts(part: Part, me: Contract, i: usize, k: Contract, j: usize) -> bool
-    ensures { result ≡ counted part me i k j }
-{
-    let own = k.buyer == me.buyer;
-    match part {
-        Part::Ahead => own & ((k.kind < Contract::DEMANDED) & stands_before(k, j, me, i)),
-        Part::Firm => own & (k.kind < Contract::DEMANDED),
-        Part::Cheaper => own & ((k.kind == Contract::DEMANDED) & (k.price < me.price)),
-        Part::Group => own & ((k.kind == Contract::DEMANDED) & (k.price == me.price)),
-    }
-}
-
-#[tactic(auto, unfolding(sums::specs::Sums::pick))]
-fn part_of(part: Part, me: Contract, i: usize, k: Contract, j: usize) -> u32
-    ensures { result ≡ counted_part part me i k j }
-{
-    if counts(part, me, i, k, j) {
-        k.quantity
-    } else {
-        0
-    }
-}
-
-// One pass over the contract rows of an accepted sheet.
-fn pass(bytes: &[u8], c: Counts, part: Part, me: Contract, i: usize) -> u32
-    requires { read_of bytes.now ≡ Ok c }
-    ensures { result ≡ part_total bytes.now c part me i }
+// One pass over the contract rows of an accepted sheet: the quantities of the buyer's rows that count, each asked with its number. The
+// contract says it of every test t that the closure's answers agree with.
+fn pass<F: Fn(Contract, usize) -> bool>(bytes: &[u8], c: Counts, buyer: u32, counts: F) -> u32
+    requires bytes_value { read_of bytes.now ≡ Ok c }
+    requires counts_value { F.IsAlwaysCallable counts }
+    ensures { (t : Contract → ℕ → Bool)
+        → ((j : ℕ) (r : Bool) → j < c.contracts → F.post counts (contract_at bytes.now c j) j r → r ≡ t (contract_at bytes.now c j) j)
+        → result ≡ part_total bytes.now c buyer t }
 {
     let start = c.agents + c.boundaries + c.plants;
     let mut sum = 0;
     for j in 0..c.contracts {
         let k = rows::contract_of(octets::row_at(bytes, start + j));
-        sum += part_of(part, me, i, k, j);
+        if k.buyer == buyer && counts(k, j) {
+            sum += k.quantity;
+        }
     }
     sum
 }
@@ -104,10 +74,23 @@ pub(crate) fn judge(bytes: &[u8], c: Counts, me: Contract, i: usize, demand: u32
         return ContractReason::Fixed;
     }
     if me.kind == Contract::CONDITIONAL {
-        return of_conditional(pass(bytes, c, Part::Ahead, me, i), demand);
+        let ahead = pass(bytes, c, me.buyer, |k, j| {
+            k.kind < Contract::DEMANDED && stands_before(k, j, me, i)
+        });
+        return of_conditional(ahead, demand);
     }
-    let rest = demand.saturating_sub(pass(bytes, c, Part::Firm, me, i));
-    let cheaper = pass(bytes, c, Part::Cheaper, me, i);
-    let total = pass(bytes, c, Part::Group, me, i);
-    of_demanded(rest, cheaper, total)
+    let firm = pass(bytes, c, me.buyer, |k, _| k.kind < Contract::DEMANDED);
+    let cheaper = pass(
+        bytes,
+        c,
+        me.buyer,
+        |k, _| k.kind == Contract::DEMANDED && k.price < me.price,
+    );
+    let total = pass(
+        bytes,
+        c,
+        me.buyer,
+        |k, _| k.kind == Contract::DEMANDED && k.price == me.price,
+    );
+    of_demanded(demand.saturating_sub(firm), cheaper, total)
 }

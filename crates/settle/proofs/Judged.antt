@@ -83,7 +83,7 @@ module _ (h : Sheet) (room : Bool) (before after : Ledger) (r : Result Weight Re
   told_verdict (Ok tt) = refl
   told_verdict (Err q) = refl
 
-  told : verdict_on r ≡ admission_with h room
+  pub told : verdict_on r ≡ admission_with h room
   told = ap verdict_on w.answer ∙ told_verdict (admission_with h room)
 
   tradable_one : before.own ≡ zeros

@@ -1,3 +1,4 @@
 pub mod Stages
+pub mod Planted
 pub mod Holdings
 pub mod Judged

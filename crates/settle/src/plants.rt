@@ -2,7 +2,6 @@
 ghost use Rattle.std.specs.Prelude.{◌≡◌, ℕ, ◌+◌, ◌-◌, ◌≤◌, ◌<◌, length};
 ghost use Rattle.sums.specs.Sums.{sum};
 ghost use Rattle.sums.specs.Lists.{at, Filled};
-ghost use Rattle.limits.specs.Limits.{most_plants};
 ghost use Rattle.sheet.specs.Reading.{read_of};
 ghost use Rattle.columns.specs.Columns.{columns_of};
 ghost use Rattle.settle.specs.Parts.{Covered, Generates};
@@ -11,30 +10,30 @@ use crate::tally;
 use limits::Plant;
 use sheet::Counts;
 
-// What each of n plants has to spare above its must-run, in place of its availability. What must run together is handed back.
-fn set_apart(musts: &[u32; Plant::MOST], n: usize, available: &mut [u32]) -> u32
-    requires { (n ≤ most_plants) × (n ≤ length available.old) × (sum n (at musts.now) ≤ 4294967295) }
-    ensures { (result ≡ sum n (at musts.now))
-        × Filled 0 available.old available.new n
+// What each plant has to spare above its must-run, in place of its availability. What must run together is handed back.
+fn set_apart(musts: &[u32], available: &mut [u32]) -> u32
+    requires { (length musts.now ≤ length available.old) × (sum (length musts.now) (at musts.now) ≤ 4294967295) }
+    ensures { (result ≡ sum (length musts.now) (at musts.now))
+        × Filled 0 available.old available.new (length musts.now)
         (λ i. at available.old i - at musts.now i) }
 {
     let mut total = 0;
-    for i in 0..n {
-        available[i] = available[i].saturating_sub(musts[i]);
-        total += musts[i];
+    for (i, &must) in musts.iter().enumerate() {
+        available[i] = available[i].saturating_sub(must);
+        total += must;
     }
     total
 }
 
-// Adds each of n must-runs to what the price order gave above it.
-fn add_musts(musts: &[u32; Plant::MOST], n: usize, schedule: &mut [u32])
-    requires n_le_most_plants { (n ≤ most_plants) × (n ≤ length schedule.old) }
-    requires by_index { (i : ℕ) → i < n → at musts.now i + at schedule.old i ≤ 4294967295 }
-    ensures { Filled 0 schedule.old schedule.new n
+// Adds each must-run to what the price order gave above it.
+fn add_musts(musts: &[u32], schedule: &mut [u32])
+    requires musts_len { length musts.now ≤ length schedule.old }
+    requires by_index { (i : ℕ) → i < length musts.now → at musts.now i + at schedule.old i ≤ 4294967295 }
+    ensures { Filled 0 schedule.old schedule.new (length musts.now)
         (λ i. at musts.now i + at schedule.old i) }
 {
-    for i in 0..n {
-        schedule[i] += musts[i];
+    for (i, &must) in musts.iter().enumerate() {
+        schedule[i] += must;
     }
 }
 
@@ -67,10 +66,11 @@ pub(crate) fn generate(
         &mut offers,
         &mut spare,
     );
-    let must = set_apart(&musts, n, &mut spare);
+    let musts = &musts[..n];
+    let must = set_apart(musts, &mut spare);
     let rest = target.saturating_sub(must);
     let _ = dispatch::dispatch(&offers[..n], &spare[..n], rest, schedule);
-    add_musts(&musts, n, schedule);
+    add_musts(musts, schedule);
     tally::tally(&holders[..n], &schedule[..n], own);
     dispatch::price(&offers[..n], &flags[..n], &schedule[..n])
 }

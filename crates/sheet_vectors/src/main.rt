@@ -3,7 +3,7 @@
 // A case is a 32-bit length, the low byte first, and that many bytes.
 #![tactic(auto)]
 
-ghost use Rattle.std.specs.Prelude.{◌≤◌, ◌<◌};
+ghost use Rattle.std.specs.Prelude.{◌≤◌, ◌<◌, length};
 
 use limits::{Agent, Boundary, Contract, Plant};
 use refusals::Refusal;
@@ -18,7 +18,7 @@ fn print_refused<P: Print>(rt: &P, r: Refusal) -> io::Result<()> {
 }
 
 // Number j of a row.
-fn field(f: Fields, j: u32) -> u32 {
+fn field(f: Fields, j: usize) -> u32 {
     match j {
         0 => f.first,
         1 => f.second,
@@ -28,72 +28,35 @@ fn field(f: Fields, j: u32) -> u32 {
     }
 }
 
-// The n numbers of a section, so many to a row, each asked for by itself.
-fn take_numbers(s: &[u8], section: u32, width: u32, n: u32, out: &mut [u32])
-    requires { 0 < width }
+// The numbers of a section, so many to a row, each asked for by itself.
+fn take_numbers(s: &[u8], section: u32, width: usize, out: &mut [u32])
+    requires { (0 < width) × (length out.old ≤ 1280) }
 {
-    for (k, cell) in (0..n).zip(out.iter_mut()) {
-        let f = sheet::fields_in(sheet::asking::ask_row(s, section, k / width));
+    for (k, cell) in out.iter_mut().enumerate() {
+        let f = sheet::fields_in(sheet::asking::ask_row(s, section, (k / width) as u32));
         *cell = field(f, k % width);
     }
 }
 
-// An accepted sheet's count: none is over 256.
-fn count(n: usize) -> u32
-    ensures { result ≤ 256 }
-{
-    n.min(256) as u32
-}
-
-// Whether these numbers, written, are the sheet.
-fn write_again(
-    s: &[u8],
-    c: Counts,
-    agents: &[u32],
-    boundaries: &[u32],
-    plants: &[u32],
-    contracts: &[u32],
-) -> bool {
-    let a = c.agents;
-    let b = c.boundaries;
-    let p = c.plants;
-    let k = c.contracts;
-    if agents.len() < a {
-        return false;
-    }
-    if boundaries.len() / 4 < b {
-        return false;
-    }
-    if plants.len() / 5 < p {
-        return false;
-    }
-    if contracts.len() / 5 < k {
-        return false;
-    }
-    let mut out = [0u8; Counts::LONGEST];
-    let answer = writing::write(
-        &agents[..a],
-        &boundaries[..4 * b],
-        &plants[..5 * p],
-        &contracts[..5 * k],
-        &mut out,
-    );
-    match answer {
-        Ok(n) => n == s.len() && out.starts_with(s),
-        Err(_) => false,
-    }
-}
-
+// Whether an accepted sheet's numbers, written, are the sheet.
 fn same_again(s: &[u8], c: Counts) -> bool {
     let mut agents = [0u32; Agent::MOST];
     let mut boundaries = [0u32; 4 * Boundary::MOST];
     let mut plants = [0u32; 5 * Plant::MOST];
     let mut contracts = [0u32; 5 * Contract::MOST];
-    take_numbers(s, 1, 1, count(c.agents), &mut agents);
-    take_numbers(s, 2, 4, 4 * count(c.boundaries), &mut boundaries);
-    take_numbers(s, 3, 5, 5 * count(c.plants), &mut plants);
-    take_numbers(s, 4, 5, 5 * count(c.contracts), &mut contracts);
-    write_again(s, c, &agents, &boundaries, &plants, &contracts)
+    let agents = &mut agents[..c.agents.min(Agent::MOST)];
+    let boundaries = &mut boundaries[..4 * c.boundaries.min(Boundary::MOST)];
+    let plants = &mut plants[..5 * c.plants.min(Plant::MOST)];
+    let contracts = &mut contracts[..5 * c.contracts.min(Contract::MOST)];
+    take_numbers(s, 1, 1, agents);
+    take_numbers(s, 2, 4, boundaries);
+    take_numbers(s, 3, 5, plants);
+    take_numbers(s, 4, 5, contracts);
+    let mut out = [0u8; Counts::LONGEST];
+    match writing::write(agents, boundaries, plants, contracts, &mut out) {
+        Ok(n) => n == s.len() && out.starts_with(s),
+        Err(_) => false,
+    }
 }
 
 fn print_accepted<P: Print>(rt: &P, s: &[u8], c: Counts) -> io::Result<()> {

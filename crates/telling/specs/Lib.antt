@@ -1,3 +1,4 @@
 pub mod Text
 pub mod Tell
 pub mod Enough
+pub mod Lists

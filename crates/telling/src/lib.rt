@@ -11,6 +11,7 @@ ghost use Rattle.printing.specs.Page.{Prints};
 ghost use Rattle.telling.specs.Text.{lists_serve, statement_text, StatementWritten};
 ghost use Rattle.telling.specs.Tell.{own_statement, tell_verdict};
 ghost use Rattle.telling.specs.Enough.{Enough};
+ghost use Rattle.telling.specs.Lists.{given};
 
 use limits::{Agent, Contract, Plant};
 use printing::pen;
@@ -21,38 +22,39 @@ use text::puts;
 // The longest statement: 175 bytes an agent, 51 a plant or a contract, 27 for the price.
 const LONGEST: usize = 175 * Agent::MOST + 51 * (Plant::MOST + Contract::MOST) + 27;
 
+// The lists that a statement is written from.
+#[derive(Clone, Copy)]
+struct Lists<'a> {
+    figures: &'a [u32],
+    money: &'a [i64],
+    schedule: &'a [u32],
+    amounts: &'a [u32],
+}
+
 // Counts within their limits, and lists as long as they ask for.
 #[tactic(auto, unfolding(crate::specs::Text::lists_serve))]
-fn lists_serve(c: Counts, figures: usize, money: usize, schedule: usize, amounts: usize) -> bool
-    ensures { result ≡ lists_serve c figures money schedule amounts }
+fn lists_serve(c: Counts, l: Lists) -> bool
+    ensures { result ≡ lists_serve c (length l.entry.figures.now) (length l.entry.money.now)
+        (length l.entry.schedule.now) (length l.entry.amounts.now) }
 {
     c.agents <= Agent::MOST
         && c.plants <= Plant::MOST
         && c.contracts <= Contract::MOST
-        && Agent::CELLS * c.agents <= figures
-        && c.agents <= money
-        && c.plants <= schedule
-        && c.contracts <= amounts
+        && Agent::CELLS * c.agents <= l.figures.len()
+        && c.agents <= l.money.len()
+        && c.plants <= l.schedule.len()
+        && c.contracts <= l.amounts.len()
 }
 
 // The statement at the end of a scratch.
-fn put_statement(
-    s: &mut [u8],
-    c: Counts,
-    price: u32,
-    figures: &[u32],
-    money: &[i64],
-    schedule: &[u32],
-    amounts: &[u32],
-) -> usize
-    requires { Enough c (length figures.now) (length money.now) (length schedule.now) (length amounts.now)
-        × (27547 ≤ length s.old) }
-    ensures { drop result s.new
-        ≡ statement_text c price (lent figures.now money.now schedule.now amounts.now) }
+fn put_statement(s: &mut [u8], c: Counts, price: u32, l: Lists) -> usize
+    requires serve { Enough c (length l.figures.now) (length l.money.now) (length l.schedule.now) (length l.amounts.now) }
+    requires room { 27547 ≤ length s.old }
+    ensures { drop result s.new ≡ statement_text c price (given l.entry) }
 {
-    let i = putting::put_list(s, s.len(), b"contract", amounts, c.contracts);
-    let j = putting::put_list(s, i, b"plant", schedule, c.plants);
-    let k = putting::put_agents(s, j, figures, money, c.agents);
+    let i = putting::put_list(s, s.len(), b"contract", &l.amounts[..c.contracts]);
+    let j = putting::put_list(s, i, b"plant", &l.schedule[..c.plants]);
+    let k = putting::put_agents(s, j, l.figures, &l.money[..c.agents]);
     puts::put_row(s, k, b"price", &[price])
 }
 
@@ -70,14 +72,20 @@ pub fn write(
         (lent figures.now money.now schedule.now amounts.now)
         out.old result out.new }
 {
-    if !lists_serve(c, figures.len(), money.len(), schedule.len(), amounts.len()) {
+    let lists = Lists {
+        figures,
+        money,
+        schedule,
+        amounts,
+    };
+    if !lists_serve(c, lists) {
         return Err(Refusal {
             number: Refusal::LAYOUT,
             place: 0,
         });
     }
     let mut s = [0u8; LONGEST];
-    let from = put_statement(&mut s, c, price, figures, money, schedule, amounts);
+    let from = put_statement(&mut s, c, price, lists);
     pen::give(&s, from, out)
 }
 

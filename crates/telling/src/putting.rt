@@ -12,6 +12,7 @@ use printing::pen;
 use text::puts;
 
 // Agent a's line: its word has 5 bytes, each of seven numbers 21 with its space, its money 22, and the line end is one.
+#[tactic(auto, unfolding(crate::specs::Text::agent_line))]
 fn put_agent(s: &mut [u8], at: usize, figures: &[u32], money: &[i64], a: usize) -> usize
     requires { (a < most_agents) × (6 * a + 6 ≤ length figures.now) × (a < length money.now) }
     ensures { PutInRoom (agent_line (lent figures.now money.now [] []) a (drop at s.old))
@@ -34,28 +35,28 @@ fn put_agent(s: &mut [u8], at: usize, figures: &[u32], money: &[i64], a: usize) 
     pen::word(s, m, b"agent")
 }
 
-// The lines of the first n agents.
-pub(crate) fn put_agents(s: &mut [u8], at: usize, figures: &[u32], money: &[i64], n: usize) -> usize
-    requires { (n ≤ most_agents) × (6 * n ≤ length figures.now) × (n ≤ length money.now) }
-    ensures { PutInRoom (lines_to (agent_line (lent figures.now money.now [] [])) n (drop at s.old))
-        s.old s.new at (175 * n) result }
+// The lines of the agents, as many as there are in `money`.
+pub(crate) fn put_agents(s: &mut [u8], at: usize, figures: &[u32], money: &[i64]) -> usize
+    requires { (length money.now ≤ most_agents) × (6 * length money.now ≤ length figures.now) }
+    ensures { PutInRoom (lines_to (agent_line (lent figures.now money.now [] [])) (length money.now) (drop at s.old))
+        s.old s.new at (175 * length money.now) result }
 {
     let mut i = at;
-    for a in (0..n).rev() {
+    for a in (0..money.len()).rev() {
         i = put_agent(s, i, figures, money, a);
     }
     i
 }
 
-// The first n rows of a list, each with its number behind the word: of at most 8 bytes, two numbers and a line end.
-pub(crate) fn put_list(s: &mut [u8], at: usize, word: &[u8], list: &[u32], n: usize) -> usize
-    requires { (n ≤ most_contracts) × (n ≤ length list.now) × (length word.now ≤ 8) }
+// The rows of a list, each with its number behind the word: of at most 8 bytes, two numbers and a line end.
+pub(crate) fn put_list(s: &mut [u8], at: usize, word: &[u8], list: &[u32]) -> usize
+    requires { (length list.now ≤ most_contracts) × (length word.now ≤ 8) }
     ensures { PutInRoom
-        (lines_to (λ i. row_text word.now (i ∷ get_or list.now i 0 ∷ [])) n (drop at s.old))
-        s.old s.new at (51 * n) result }
+        (lines_to (λ i. row_text word.now (i ∷ get_or list.now i 0 ∷ [])) (length list.now) (drop at s.old))
+        s.old s.new at (51 * length list.now) result }
 {
     let mut i = at;
-    for row in (0..n).rev() {
+    for row in (0..list.len()).rev() {
         i = puts::put_row(s, i, word, &[row as u32, list[row]]);
     }
     i

@@ -1,9 +1,11 @@
 -- Laws of a section that is gathered line by line: one row more, and the list that stands at the front in the end. Assumes nothing.
 use Prim.Native.Nat.{ℕ, ◌+◌, ◌-◌, ◌≤◌, ◌<◌}
-use mathlib.Core.Path.{◌≡◌, ap, sym, ◌∙◌}
+use mathlib.Core.Path.{◌≡◌, ap, ap₂, sym, ◌∙◌}
 use mathlib.Core.Bool.{Bool, true, false, cond}
 use mathlib.Core.List.{List, [], ◌∷◌, ◌++◌, append-nil}
 use native.Mathlib.Omega.{arith}
+use native.Mathlib.Nat.{le_refl}
+use Rattle.std.proofs.lemmas.List.{take_all}
 use borrow.Author.Tests.{eq-eqb, ne_eqb}
 use lib.Dec.{eqb}
 use lib.ListN.{length, take, drop, get_or, length-append}
@@ -48,6 +50,12 @@ gather_room k n out s h e l =
     let b : length (take n out) ≡ n = length-take-le n out h in
     let d = row_long k s in
     omega arith
+
+-- the front of a list pasted, where that is what there is
+pub paste_front : (out xs : List ℕ) (k n : ℕ) → n ≤ length xs → paste out k (take n xs) (length (take n xs)) ≡ paste out k xs n
+paste_front out xs k n h =
+    let e = take_all (length (take n xs)) (take n xs) (le_refl _) in
+    ap₂ (λ (l : List ℕ) (j : ℕ). take k out ++ l ++ drop (k + j) out) e (length-take-le n xs h)
 
 -- the row put at n
 pub gather_put : (k n : ℕ) (out s : List ℕ) → n ≤ length out → (read_line s).word ≡ k

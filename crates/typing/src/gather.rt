@@ -5,14 +5,13 @@ ghost use Rattle.sums.specs.Lists.{at, Filled};
 ghost use Rattle.typing.specs.Rows.{gather_line, listed};
 
 use super::scans;
-use text::Line;
 
-// The first n numbers of a line at k.
-fn put_numbers(out: &mut [u32], k: usize, l: Line, n: usize)
-    requires { (n ≤ 7) × (k + n ≤ length out.old) }
-    ensures { out.new ≡ paste out.old k l.numbers n }
+// The numbers of a row, at k.
+fn put_numbers(out: &mut [u32], k: usize, numbers: &[u32])
+    requires { k + length numbers.now ≤ length out.old }
+    ensures { out.new ≡ paste out.old k numbers.now (length numbers.now) }
 {
-    out[k..k + n].copy_from_slice(&l.numbers[..n]);
+    out[k..k + numbers.len()].copy_from_slice(numbers);
 }
 
 // A line's numbers, if it is of the section, behind the k that are there.
@@ -24,7 +23,7 @@ fn gather_line(s: &[u8], out: &mut [u32], k: usize, section: u32) -> usize
     let l = text::read_line(s);
     if l.word == section {
         let n = scans::wanted(section);
-        put_numbers(out, k, l, n);
+        put_numbers(out, k, &l.numbers[..n]);
         k + n
     } else {
         k

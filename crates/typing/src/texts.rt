@@ -69,7 +69,7 @@ fn put_line(s: &mut [u8], at: usize, k: u32, w: Words) -> usize
     }
 }
 
-// n rows of section k, the first of which is row `start` of the sheet.
+// n rows of section k, the first of which is row `start` of the sheet: a count of rows, and the length of no list here.
 fn put_section(s: &mut [u8], at: usize, sheet: &[u8], k: u32, start: usize, n: usize) -> usize
     requires { (1 ≤ k) × (k ≤ 4) × (start + n < 65536) }
     ensures { RowsPut k sheet.now start n s.old s.new at result }

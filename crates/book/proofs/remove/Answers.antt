@@ -1,5 +1,4 @@
 -- The slot is a place of the book, the totals have room for a removal there, and what is told of it is the book's.
-use Rattle.std.proofs.Common.{arith}
 use Rattle.book.specs.Book.{slot_verdict, blank}
 use Rattle.book.specs.Told.{slot_of}
 use Rattle.book.proofs.Laws.{kept_carries, slot_within, told_does, fine_hour}

@@ -8,17 +8,20 @@ overflow_mul-old_money c =
 
 pub new_total-requires : goal.new_total-requires
 new_total-requires c =
-    turns_demand _ _ _ c.requires _ c.start_of-start.ensures.0 _ _ c.cell-2.ensures c.from.ensures
+    turns_demand _ _ _ c.requires _ c.start_of-start.ensures.0 _ _ c.cell-2.ensures
+    (rw c.counted-new.ensures at c.from.ensures)
 
 pub new_total-requires-2 : goal.new_total-requires-2
 new_total-requires-2 c =
-    turns_losses _ _ _ c.requires _ c.start_of-start.ensures.0 _ _ c.cell-3.ensures c.from-2.ensures
+    turns_losses _ _ _ c.requires _ c.start_of-start.ensures.0 _ _ c.cell-3.ensures
+    (rw c.counted-new.ensures at c.from-2.ensures)
 
 pub new_total-requires-3 : goal.new_total-requires-3
 new_total-requires-3 c =
-    turns_bought _ _ _ c.requires _ c.start_of-start.ensures.0 _ _ c.cell-old_bought.ensures c.from-bought.ensures
+    turns_bought _ _ _ c.requires _ c.start_of-start.ensures.0 _ _ c.cell-old_bought.ensures
+    (rw c.counted-new.ensures at c.from-bought.ensures)
 
 pub new_total-requires-4 : goal.new_total-requires-4
 new_total-requires-4 c =
     turns_money _ _ _ c.requires _ c.start_of-start.ensures.0 _ _ c.cell-old_bought.ensures c.cell.ensures _ _
-    c.from-bought.ensures c.from-3.ensures
+    (rw c.counted-new.ensures at c.from-bought.ensures) (rw c.counted-new.ensures at c.from-3.ensures)

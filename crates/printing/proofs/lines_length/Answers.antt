@@ -9,6 +9,6 @@ loop-a-init c = (refl, omega arith)
 
 pub loop-a-preserved : goal.loop-a-preserved
 loop-a-preserved c =
-    let a = c.args in
+    let a = c.args.agents in
     let longer = lines_longer a.kinds.now a.figures.now a.money.now c.loop-a.a in
     (omega arith, omega arith)

@@ -1,13 +1,13 @@
-use Rattle.std.proofs.Common.{refl, arith}
-use Rattle.checking.proofs.Accounts.{all_unsummed, summed_row}
+use Rattle.std.proofs.Common.{arith}
+use Rattle.checking.proofs.Accounts.{summed_row}
 use Rattle.checking.proofs.passes.add_rows.Goals as goal
 
 pub loop-i-init : goal.loop-i-init
-loop-i-init c = all_unsummed _ _ _ _ refl
+loop-i-init c = c.requires.begun
 
 pub loop-i-preserved : goal.loop-i-preserved
 loop-i-preserved c =
     let l = c.loop-i in
-    let fit = c.requires.small l.i (omega arith) in
-    summed_row _ l.i (omega arith) _ (c.requires.buyer l.i (omega arith)) (omega arith) (omega arith) _ _ _ c.add_at.ensures
+    let fit = c.requires.placed.small l.i (omega arith) in
+    summed_row _ l.i (omega arith) _ (c.requires.placed.buyer l.i (omega arith)) (omega arith) (omega arith) _ _ _ c.add_at.ensures
     l.invariant

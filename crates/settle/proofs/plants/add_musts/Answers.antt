@@ -1,5 +1,5 @@
 -- The cell of the next plant has not been written yet.
-use Rattle.std.proofs.Common.{◌≡◌, arith}
+use Rattle.std.proofs.Common.{◌≡◌, length, arith}
 use Rattle.sums.proofs.Fill.{filled_none, filled_more}
 use Rattle.settle.proofs.plants.add_musts.Goals as goal
 
@@ -16,4 +16,4 @@ loop-i-preserved c =
     (omega (arith, c.loop-i.invariant.kept c.loop-i.i (omega arith))) c.loop-i.invariant
 
 pub returns : goal.returns
-returns c = let e : c.loop-i.i ≡ c.args.n = omega arith in rw e at c.loop-i.invariant
+returns c = let e : c.loop-i.i ≡ length c.args.musts.now = omega arith in rw e at c.loop-i.invariant

@@ -1,5 +1,5 @@
 -- The cell of the next plant has not been written yet.
-use Rattle.std.proofs.Common.{◌≡◌, ℕ, ◌-◌, ap, ◌∙◌, sym, arith}
+use Rattle.std.proofs.Common.{◌≡◌, ℕ, ◌-◌, ap, ◌∙◌, sym, length, arith}
 use Rattle.sums.specs.Lists.{at}
 use Rattle.sums.proofs.Sums.{sum_none, sum_step, sum_front}
 use Rattle.sums.proofs.Fill.{filled_none, filled_more}
@@ -10,7 +10,8 @@ loop-i-init c = record { total = sym (sum_none _); spare = filled_none 0 _ _ }
 
 pub overflow_add-total : goal.overflow_add-total
 overflow_add-total c =
-    omega (arith, c.loop-i.invariant.total, sum_front c.args.n c.loop-i.i (at c.args.musts.now) (omega arith))
+    let ms = c.args.musts.now in
+    omega (arith, c.loop-i.invariant.total, sum_front (length ms) c.loop-i.i (at ms) (omega arith), c.requires.1)
 
 pub loop-i-preserved : goal.loop-i-preserved
 loop-i-preserved c =
@@ -24,5 +25,5 @@ loop-i-preserved c =
 
 pub returns : goal.returns
 returns c =
-    let e : c.loop-i.i ≡ c.args.n = omega arith in
+    let e : c.loop-i.i ≡ length c.args.musts.now = omega arith in
     (rw e at c.loop-i.invariant.total, rw e at c.loop-i.invariant.spare)

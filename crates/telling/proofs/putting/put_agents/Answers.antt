@@ -1,6 +1,6 @@
 use Rattle.std.proofs.Common.{arith}
 use Rattle.hour.specs.Answer.{lent}
-use Rattle.std.proofs.Common.{[], drop}
+use Rattle.std.proofs.Common.{[], length, drop}
 use Rattle.telling.specs.Text.{agent_line}
 use Rattle.telling.proofs.Going.{going_more, going_done}
 use Rattle.telling.proofs.putting.put_agents.Goals as goal
@@ -15,7 +15,7 @@ loop-a-preserved c = λ p q.
       low = omega (arith, f.low, w.low);
       high = omega (arith, f.high, w.high);
       text =
-          going_more (agent_line (lent a.figures.now a.money.now [] [])) a.n (drop a.at a.s.now) l.s l.i l.a f.text _
+          going_more (agent_line (lent a.figures.now a.money.now [] [])) (length a.money.now) (drop a.at a.s.now) l.s l.i l.a f.text _
           (omega arith) w.text_is;
     }
 
@@ -28,7 +28,7 @@ returns c =
           let f = l.invariant p q in
           record {
             text_is =
-                going_done (agent_line (lent a.figures.now a.money.now [] [])) a.n (drop a.at a.s.now) l.s l.i l.a f.text
+                going_done (agent_line (lent a.figures.now a.money.now [] [])) (length a.money.now) (drop a.at a.s.now) l.s l.i l.a f.text
                 (omega arith);
             low = omega (arith, f.low);
             high = f.high;

@@ -7,4 +7,4 @@ use Rattle.telling.proofs.putting.put_agents.Given as goal
 
 abbrev pub invariant-loop-a : goal.invariant-loop-a
 invariant-loop-a l =
-    175 * l.n ≤ l.at → l.at ≤ length l.fn.s → Going 175 (agent_line (lent l.figures l.money [] [])) l.fn.s l.at l.n l.s l.i l.a
+    175 * length l.money ≤ l.at → l.at ≤ length l.fn.s → Going 175 (agent_line (lent l.figures l.money [] [])) l.fn.s l.at (length l.money) l.s l.i l.a

@@ -12,12 +12,12 @@ loop-row-preserved c = λ p q.
     let a = c.args in
     let l = c.loop-row in
     let f = l.invariant p q in
-    let short : length a.word.now ≤ 8 = c.requires.2 in
+    let short : length a.word.now ≤ 8 = c.requires.1 in
     let w = c.put_row-i.ensures.put (omega (arith, f.low, p, short)) (omega (arith, f.high, q)) in
     record {
       low = omega (arith, f.low, w.low, short);
       high = omega (arith, f.high, w.high);
-      text = going_more (row a.word.now a.list.now) a.n (drop a.at a.s.now) l.s l.i l.row f.text _ (omega arith) w.text_is;
+      text = going_more (row a.word.now a.list.now) (length a.list.now) (drop a.at a.s.now) l.s l.i l.row f.text _ (omega arith) w.text_is;
     }
 
 pub returns : goal.returns
@@ -28,7 +28,7 @@ returns c =
       put = λ p q.
           let f = l.invariant p q in
           record {
-            text_is = going_done (row a.word.now a.list.now) a.n (drop a.at a.s.now) l.s l.i l.row f.text (omega arith);
+            text_is = going_done (row a.word.now a.list.now) (length a.list.now) (drop a.at a.s.now) l.s l.i l.row f.text (omega arith);
             low = omega (arith, f.low);
             high = f.high;
           };

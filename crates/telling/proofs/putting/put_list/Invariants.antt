@@ -6,6 +6,6 @@ use Rattle.telling.proofs.putting.put_list.Given as goal
 
 abbrev pub invariant-loop-row : goal.invariant-loop-row
 invariant-loop-row l =
-    51 * l.n ≤ l.at
+    51 * length l.list ≤ l.at
     → l.at ≤ length l.fn.s
-    → Going 51 (λ i. row_text l.word (i ∷ get_or l.list i 0 ∷ [])) l.fn.s l.at l.n l.s l.i l.row
+    → Going 51 (λ i. row_text l.word (i ∷ get_or l.list i 0 ∷ [])) l.fn.s l.at (length l.list) l.s l.i l.row

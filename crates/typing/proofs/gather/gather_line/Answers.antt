@@ -3,7 +3,7 @@ use mathlib.Core.Path.{◌≡◌, refl, sym, ap, ap₂, ◌∙◌}
 use mathlib.Core.List.{List}
 use native.Mathlib.Omega.{arith}
 use lib.ListN.{length, take, drop}
-use lib.Seq.{paste}
+use lib.Seq.{paste, length-take-le}
 use Rattle.text.specs.Lines.{read_line}
 use Rattle.text.specs.declared.Line.{Line}
 use Rattle.typing.specs.Rows.{wants}
@@ -15,7 +15,8 @@ put_numbers-requires c =
     let a = c.args in
     let e : (read_line a.s.now).word ≡ a.section = sym (ap (λ (l : Line). l.word) c.read_line-l.ensures) ∙ c.if-l-section.true in
     let n = c.wanted-n.ensures in
-    (omega (arith, n.1), rw n.0 (laws.gather_room a.section a.k a.out.now a.s.now c.requires.0 e c.requires.1))
+    let room = laws.gather_room a.section a.k a.out.now a.s.now c.requires.0 e c.requires.1 in
+    omega (arith, n, room, length-take-le {A = ℕ})
 
 pub returns-then-l-section : goal.returns-then-l-section
 returns-then-l-section c =
@@ -26,7 +27,8 @@ returns-then-l-section c =
     let e : (read_line s).word ≡ a.section = sym (ap (λ (l : Line). l.word) r) ∙ c.if-l-section.true in
     let n : c.wanted-n.result ≡ wants a.section = c.wanted-n.ensures.0 in
     let x : c.put_numbers.new.out ≡ paste o a.k (read_line s).numbers (wants a.section) =
-    c.put_numbers.ensures ∙ ap₂ (paste o a.k) (ap (λ (l : Line). l.numbers) r) n in
+    c.put_numbers.ensures ∙ laws.paste_front o c.read_line-l.result.numbers a.k c.wanted-n.result (omega arith)
+    ∙ ap₂ (paste o a.k) (ap (λ (l : Line). l.numbers) r) n in
     let z : length c.put_numbers.new.out ≡ length o = c.put_numbers.auto.out in
     let m = laws.gather_room a.section a.k o s c.requires.0 e c.requires.1 in (
       ap₂ (λ (j : ℕ) (l : List ℕ). take (a.k + j) l) n x ∙ laws.gather_put a.section a.k o s c.requires.0 e,
