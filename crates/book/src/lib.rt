@@ -100,8 +100,9 @@ pub fn first(a: Verdict, b: Verdict) -> Verdict
 pub fn entry_verdict(hour: u32, demand: u32, losses: u32, bought: u32, price: u32) -> Verdict
     ensures { result ≡ entry_verdict hour demand losses bought price }
 {
-    hour_verdict(hour)?;
-    numbers_verdict(hour, demand, losses, bought, price)
+    let of_hour = hour_verdict(hour);
+    let of_numbers = numbers_verdict(hour, demand, losses, bought, price);
+    first(of_hour, of_numbers)
 }
 
 fn money(bought: u32, price: u32) -> u64

@@ -111,8 +111,8 @@ fn cells_verdict(cells: &[u64], hour: u32, own: Verdict) -> Verdict
     ensures { result ≡ cells_verdict cells.now hour own }
 {
     room_verdict(cells)?;
-    own?;
-    looked_verdict(cells, hour)
+    let looked = looked_verdict(cells, hour);
+    book::first(own, looked)
 }
 
 // Puts numbers into the cells, from a place on.

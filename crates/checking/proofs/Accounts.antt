@@ -35,7 +35,7 @@ use Rattle.checking.specs.declared.passes.Summed.{Summed}
 use Rattle.checking.proofs.Loops.{seen_none, seen_more, seen_room, summed_none, summed_more, summed_room, every_none, every_step}
 
 -- one account is put anew, the others are as they were
-put_each : {A : Type 0} (d : A) (P : ℕ → A → Type 0) (all : List A) (b n : ℕ) (r : A) → b < length all → P b r
+pub put_each : {A : Type 0} (d : A) (P : ℕ → A → Type 0) (all : List A) (b n : ℕ) (r : A) → b < length all → P b r
     → ((a : ℕ) → a < n → (a ≡ b → ⊥) → P a (get_or all a d)) → (a : ℕ) → a < n → P a (get_or (set all b r) a d)
 put_each {A} d P all b n r l h k a la = go (ℕ_discrete a b)
   where
@@ -111,7 +111,7 @@ all_unseen s xs all e =
           });
     }
 
-all_seen_more : (s : Rows) (xs : List ℕ) (i b : ℕ) (all : List Seen) (r : Seen)
+pub all_seen_more : (s : Rows) (xs : List ℕ) (i b : ℕ) (all : List Seen) (r : Seen)
     → i < length s.buyers
     → b ≡ at s.buyers i
     → b < most_agents
@@ -185,7 +185,7 @@ all_unsummed s xs seen all e =
           });
     }
 
-all_summed_more : (s : Rows) (xs : List ℕ) (seen : List Seen) (i b : ℕ) (all : List Summed) (r : Summed)
+pub all_summed_more : (s : Rows) (xs : List ℕ) (seen : List Seen) (i b : ℕ) (all : List Summed) (r : Summed)
     → i < length s.buyers
     → b ≡ at s.buyers i
     → b < most_agents
@@ -250,7 +250,7 @@ all_fine_none s xs ds seen sums all e =
           ∙ sym (every_none (fine_of s xs ds seen sums a));
     }
 
-all_fine_more : (s : Rows) (xs ds : List ℕ) (seen : List Seen) (sums : List Summed) (i b : ℕ) (all : List Bool)
+pub all_fine_more : (s : Rows) (xs ds : List ℕ) (seen : List Seen) (sums : List Summed) (i b : ℕ) (all : List Bool)
     (one : Bool)
     → i < length s.buyers
     → b ≡ at s.buyers i

@@ -166,16 +166,22 @@ module _ (h : Sheet) (ok : Sound h) (l : Lent) (ks ds is js : List ℕ) (w : Dem
       ))
 
   -- what dispatch has to meet is that of the demand with their shares
-  target_is : (x y z : ℕ)
+  pub target_is : (x y z : ℕ)
+      → x ≡ sum (agents h) (at ds)
+      → y ≡ sum (agents h) (at is)
+      → z ≡ sum (agents h) (at js)
+      → x + y - z ≡ dispatch_demand_by h (demand_in h l)
+  target_is x y z e f g =
+      omega (arith, demand_sum, import_sum, small_sum, sum_add (agents h) (demand_in h l) (own_import h))
+
+  -- the same of the columns as they are, which have a cell an agent
+  target_whole : (x y z : ℕ)
       → x ≡ sum (length ds) (at ds)
       → y ≡ sum (length is) (at is)
       → z ≡ sum (length js) (at js)
       → x + y - z ≡ dispatch_demand_by h (demand_in h l)
-  target_is x y z e f g =
-      let e' = rw w.long.taken at e in
-      let f' = rw w.long.imports at f in
-      let g' = rw w.long.injects at g in
-      omega (arith, demand_sum, import_sum, small_sum, sum_add (agents h) (demand_in h l) (own_import h))
+  target_whole x y z e f g =
+      target_is x y z (rw w.long.taken at e) (rw w.long.imports at f) (rw w.long.injects at g)
 
   -- cells for own energy that hold what no schedule gives, and cells that hold nothing
   pub addable : (os : List ℕ) → Filled 0 zeros os (length ds) (λ a. at ds a + at js a) → Spacious os
@@ -196,7 +202,7 @@ module _ (h : Sheet) (ok : Sound h) (l : Lent) (ks ds is js : List ℕ) (w : Dem
       (ed : d ≡ x + y - z) (os os₂ : List ℕ) (v : Option ℕ) (f : Filled 0 zeros os (length ds) (λ a. at ds a + at js a))
       (r : Scheduled h d l.schedule os v os₂) where
     e : d ≡ dispatch_demand_by h (demand_in h l)
-    e = ed ∙ target_is x y z ex ey ez
+    e = ed ∙ target_whole x y z ex ey ez
 
     answer : v ≡ then_some (schedule_good h l) (hour_price (at h.offers) (at h.flags) (schedule_in l) (plants h))
     unfolding schedule_test schedule_good dearest

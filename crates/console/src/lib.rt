@@ -90,13 +90,15 @@ fn run_mend<R: Env + Files + Print + Eprint>(rt: &R, next: usize, end: usize)
 fn run_word<R: Env + Files + Print + Eprint>(rt: &R, word: &[u8], next: usize, end: usize)
     requires { next ≤ end }
 {
-    match word {
-        b"day" => hours::run(rt, next, end),
-        b"mend" => run_mend(rt, next, end),
-        b"why" => why::run(rt, next, end),
-        _ => if !papers::run(rt, word, next, end) {
-            say_usage(rt);
-        },
+    let is = |name: &[u8]| words::is_same(word, name);
+    if is(b"day") {
+        hours::run(rt, next, end);
+    } else if is(b"mend") {
+        run_mend(rt, next, end);
+    } else if is(b"why") {
+        why::run(rt, next, end);
+    } else if !papers::run(rt, word, next, end) {
+        say_usage(rt);
     }
 }
 

@@ -125,9 +125,10 @@ fn ask<R: Env + Files + Print + Eprint>(rt: &R, from: usize, of: usize, which: u
     let n = words::word(rt, of, &mut kind);
     let mut digits = [0u8; 16];
     let m = words::word(rt, which, &mut digits);
-    match (&kind[..n], words::number_of(&digits[..m])) {
-        (b"plant", Some(i)) => answer(rt, from, Asked::Plant(i)),
-        (b"contract", Some(j)) => answer(rt, from, Asked::Contract(j)),
+    let is = |name: &[u8]| words::is_same(&kind[..n], name);
+    match words::number_of(&digits[..m]) {
+        Some(i) if is(b"plant") => answer(rt, from, Asked::Plant(i)),
+        Some(j) if is(b"contract") => answer(rt, from, Asked::Contract(j)),
         _ => say_usage(rt),
     }
 }

@@ -6,7 +6,8 @@ use borrow.Rule.Slice.PartMut.{put_mid}
 use mathlib.Core.List.{List, [], ◌∷◌, ◌++◌}
 use mathlib.Core.Path.{◌≡◌, refl, ap, ◌∙◌}
 use lib.ListN.{length, take, drop, length-append, length-drop, get_or-append}
-use lib.Seq.{get_or-take, get_or-drop, get_or-append-add, length-take-le}
+use lib.Seq.{paste, get_or-take, get_or-drop, get_or-append-add, length-take-le}
+use Rattle.std.proofs.lemmas.Slice.{put_mid-paste}
 use Rattle.sums.specs.Lists.{at, Filled}
 use Rattle.hour.specs.Lines.{cells_per_agent, cell_of}
 
@@ -69,3 +70,10 @@ module _ (f₀ f₁ f₂ f₃ f₄ f₅ : ℕ → ℕ) (before : List ℕ) (a : 
             let d : u / cells_per_agent ≡ a = omega arith in
             behind u (omega arith) ∙ get_or-append line _ 0 (u - cells_per_agent * a) (omega arith)
             ∙ rw (q, d) (line_at (u - cells_per_agent * a) (omega arith))
+
+  -- the same of the line put over its cells
+  pub line_pasted : (l : List ℕ) → Filled 0 before l (cells_per_agent * a) cells
+      → Filled 0 before (paste l (cells_per_agent * a) line cells_per_agent) (cells_per_agent * (a + 1)) cells
+  line_pasted l r =
+      rw (put_mid-paste (cells_per_agent * a) cells_per_agent l line line cells_per_agent refl refl refl)
+      at (line_more l cells_per_agent refl r)

@@ -3,6 +3,7 @@
 #![tactic(auto)]
 
 ghost use Rattle.std.specs.Prelude.{◌≡◌, ℕ, ◌+◌, ◌*◌, ◌≤◌, ◌<◌, min, pos, length};
+ghost use Rattle.std.proofs.Math.Seq.{paste};
 ghost use Rattle.sums.specs.Lists.{at, Filled};
 ghost use Rattle.limits.specs.Limits.{most_agents, most_offer};
 ghost use Rattle.hour.specs.Lines.{money_of, cells_per_agent};
@@ -39,6 +40,14 @@ pub fn owed(sold: u32, bought: u32, price: u32) -> i64
     (i64::from(sold) - i64::from(bought)) * i64::from(price.min(Plant::OFFER))
 }
 
+// The cells of agent a in the figures.
+fn write_line(a: usize, line: &[u32; Agent::CELLS], figures: &mut [u32])
+    requires { cells_per_agent * (a + 1) ≤ length figures.old }
+    ensures { figures.new ≡ paste figures.old (cells_per_agent * a) line.now cells_per_agent }
+{
+    figures[Agent::CELLS * a..Agent::CELLS * (a + 1)].copy_from_slice(line);
+}
+
 // The lines and the money of n agents: callers hold columns with room for the most agents, and n of each are filled.
 pub fn write_lines<'a>(
     kinds: &'a [u32; Agent::MOST],
@@ -62,7 +71,7 @@ pub fn write_lines<'a>(
         let buys = bought(kinds[a], own[a], imports[a], contracted[a]) as u32;
         let sells = sold(kinds[a], own[a], contracted[a]);
         let line = [shares[a], own[a], imports[a], contracted[a], buys, sells];
-        figures[Agent::CELLS * a..Agent::CELLS * (a + 1)].copy_from_slice(&line);
+        write_line(a, &line, figures);
         money[a] = owed(sells, buys, price);
     }
 }

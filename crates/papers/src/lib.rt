@@ -14,20 +14,26 @@ use std::rt::Files;
 
 // The words that take one file.
 fn run_one<R: Env + Files + Print + Eprint>(rt: &R, word: &[u8], from: usize) -> bool {
-    match word {
-        b"text" => showing::run(rt, from, false),
-        b"statement" => showing::run(rt, from, true),
-        _ => return false,
+    let is = |name: &[u8]| words::is_same(word, name);
+    if is(b"text") {
+        showing::run(rt, from, false);
+    } else if is(b"statement") {
+        showing::run(rt, from, true);
+    } else {
+        return false;
     }
     true
 }
 
 // The words that take two.
 fn run_two<R: Env + Files + Print + Eprint>(rt: &R, word: &[u8], one: usize, other: usize) -> bool {
-    match word {
-        b"sheet" => making::run(rt, one, other),
-        b"check" => checks::run(rt, one, other),
-        _ => return false,
+    let is = |name: &[u8]| words::is_same(word, name);
+    if is(b"sheet") {
+        making::run(rt, one, other);
+    } else if is(b"check") {
+        checks::run(rt, one, other);
+    } else {
+        return false;
     }
     true
 }

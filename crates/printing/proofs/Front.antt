@@ -131,15 +131,18 @@ module _ (kinds figures : List ℕ) (money : List ℤ) where
       ap (λ (k : ℕ). lines_to (line_of front figures money) k []) (length-take-le n kinds h)
       ∙ lines_same (line_of front figures money) (line_of kinds figures money) n [] (λ i l r. rw (get_or-take n kinds i 0 l))
 
-  -- of the first n agents alone, of all or of none
   pub page_text_lem : (r : Summary) (n : ℕ)
+      → n ≡ lines_in r (length kinds)
+      → page_of r kinds figures money ≡ head_of r ++ lines_to (line_of kinds figures money) n []
+  page_text_lem r n e = rw e (page_front r)
+
+  -- of the first n agents alone, of all or of none
+  pub page_parts : (r : Summary) (n : ℕ)
       → n ≡ lines_in r (length kinds)
       → n ≤ length kinds
       → page_of r kinds figures money
       ≡ head_of r ++ lines_to (line_of (take n kinds) figures money) (length (take n kinds)) []
-  page_text_lem r n e h =
-      let whole : page_of r kinds figures money ≡ head_of r ++ lines_to (line_of kinds figures money) n [] = rw e (page_front r) in
-      whole ∙ ap (λ (l : List ℕ). head_of r ++ l) (sym (lines_front n h))
+  page_parts r n e h = page_text_lem r n e ∙ ap (λ (l : List ℕ). head_of r ++ l) (sym (lines_front n h))
 
   pub page_size : (r : Summary) (n h k : ℕ)
       → n ≡ lines_in r (length kinds)
@@ -148,7 +151,7 @@ module _ (kinds figures : List ℕ) (money : List ℤ) where
       → k ≡ length (lines_to (line_of (take n kinds) figures money) (length (take n kinds)) [])
       → h + k ≡ length (page_of r kinds figures money)
   page_size r n h k e f p q =
-      let text = ap length (page_text_lem r n e f) in
+      let text = ap length (page_parts r n e f) in
       omega (arith, length-append (head_of r) (lines_to (line_of (take n kinds) figures money) (length (take n kinds)) []))
 
 -- ---- a text put behind the bytes that are filled

@@ -223,10 +223,10 @@ module _ (section amounts : List ℕ) where
 
   module _ (p : Holding section amounts) (j : ℕ) (l : j < count_in section) (k : Contract) (is : k ≡ deal_in section j)
     where
-      buyer_there_lem : k.buyer < most_agents
+      pub buyer_there_lem : k.buyer < most_agents
       buyer_there_lem = omega (arith, ap (λ (x : Contract). x.buyer) is, p.buyer j l)
 
-      seller_there_lem : k.seller < most_agents
+      pub seller_there_lem : k.seller < most_agents
       seller_there_lem = omega (arith, ap (λ (x : Contract). x.seller) is, p.seller j l)
 
       module _ (held : List ℕ) (long : length held ≡ most_agents)

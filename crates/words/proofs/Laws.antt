@@ -14,22 +14,27 @@ same_to_nil : (a b : List ℕ) → same_to a b 0 ≡ true
 unfolding same_to
 same_to_nil a b = refl
 
-same_more : (a b : List ℕ) (k : ℕ) → same_to a b (suc k) ≡ (eqb (at a k) (at b k) && same_to a b k)
+-- one byte more
+pub same_more : (a b : List ℕ) (k : ℕ) → same_to a b (k + 1) ≡ (same_to a b k && eqb (at a k) (at b k))
 unfolding same_to
-same_more a b k = and_comm (same_to a b k) (eqb (at a k) (at b k))
+same_more a b k = simp unary_clauses refl
+
+same_next : (a b : List ℕ) (k : ℕ) → same_to a b (suc k) ≡ (eqb (at a k) (at b k) && same_to a b k)
+unfolding same_to
+same_next a b k = and_comm (same_to a b k) (eqb (at a k) (at b k))
 
 pub same_word-Decides : (a b : List ℕ) → Decides (same_word a b) (a ≡ b)
 unfolding same_word
 same_word-Decides a b =
     let each = Decides-below_and (λ k. eqb (at a k) (at b k)) (λ k. at a k ≡ at b k) (same_to a b)
-    (λ k. Decides-eqb (at a k) (at b k)) (same_to_nil a b) (same_more a b) (length a) in
+    (λ k. Decides-eqb (at a k) (at b k)) (same_to_nil a b) (same_next a b) (length a) in
     Decides-like _ (λ h. ext_get_or 0 a b h.0 h.1) (λ e. (ap length e, λ k w. ap (λ l. at l k) e))
     (Decides-and _ _ (Decides-eqb (length a) (length b)) each)
 
 -- ---- the number that a word spells
 
 -- one byte more
-spelled_more : (w : List ℕ) (k : ℕ) → spelled_to w (k + 1) ≡ with_digit (spelled_to w k) (at w k)
+pub spelled_more : (w : List ℕ) (k : ℕ) → spelled_to w (k + 1) ≡ with_digit (spelled_to w k) (at w k)
 unfolding spelled_to
 spelled_more w k = simp unary_clauses refl
 

@@ -5,7 +5,7 @@ use mir.ValLaws.{to_z-of_z}
 use Rattle.sums.proofs.Fill.{filled_none, filled_more}
 use Rattle.limits.specs.Limits.{most_offer}
 use Rattle.hour.specs.Lines.{money_of}
-use Rattle.lines.proofs.OneLine.{line_more}
+use Rattle.lines.proofs.OneLine.{line_pasted}
 use Rattle.lines.proofs.write_lines.Goals as goal
 
 pub loop-a-init : goal.loop-a-init
@@ -19,8 +19,8 @@ loop-a-preserved c =
     let same : min c.args.price most_offer ≡ c.args.price = omega (arith, c.requires.n_le_most_agents.3) in
     record {
       figures =
-          rw (c.copy_from_slice.ensures.after, b, s)
-          (line_more _ _ _ _ _ _ _ c.loop-a.a (omega arith) c.loop-a.figures _ (omega arith) inv.figures);
+          rw (c.write_line.ensures, b, s)
+          (line_pasted _ _ _ _ _ _ _ c.loop-a.a (omega arith) c.loop-a.figures inv.figures);
       money =
           filled_more (pos 0) _ c.loop-a.money c.loop-a.a _ _ (omega arith)
           (to_z-of_z w64 c.owed.result (record { sfits = c.owed.type_inv }) ∙ c.owed.ensures

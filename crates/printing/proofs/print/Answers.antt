@@ -1,12 +1,12 @@
 -- The lengths of the first line and of the others sum to the page's (`page_size`), so that the room is judged before a byte is written;
--- then first line and others are put one behind the other, and that is the page (`page_text_lem`).
+-- then first line and others are put one behind the other, and that is the page (`page_parts`).
 use Rattle.std.proofs.Common.{ℕ, ◌+◌, List, [], ◌++◌, length, take, refl, sym, ◌∙◌, arith}
 use Rattle.sums.proofs.Fill.{filled_none, filled_count}
 use Rattle.printing.specs.Text.{lines_to}
 use Rattle.printing.specs.Page.{line_of}
 use Rattle.printing.specs.Put.{head_of}
 use Rattle.printing.proofs.Printing.{bad_lists, no_room_lem, all_printed}
-use Rattle.printing.proofs.Front.{page_text_lem, page_size, appended_more}
+use Rattle.printing.proofs.Front.{page_parts, page_size, appended_more}
 use Rattle.printing.proofs.print.Goals as goal
 
 pub returns-then-not-lists_good : goal.returns-then-not-lists_good
@@ -33,7 +33,7 @@ returns c =
     let filled =
     filled_count 0 _ _ (0 + length (head ++ lines)) (length (head ++ lines)) _ (omega arith)
     (whole a.out.now [] refl (filled_none 0 _ _)) in
-    let text = page_text_lem a.kinds.now a.figures.now a.money.now a.r _ n.0 n.1 in
+    let text = page_parts a.kinds.now a.figures.now a.money.now a.r _ n.0 n.1 in
     rw size
     (all_printed _ _ _ _ _ (sym c.lists_good.ensures ∙ c.if-not-lists_good.false) _ (rw size at c.if-out-size.false)
     (rw (sym text) at filled))
