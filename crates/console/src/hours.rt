@@ -99,7 +99,9 @@ fn run_files<R: Env + Files + Print + Eprint>(rt: &R, first: usize)
     }
 }
 
-// The words from `next` up to, not including, `end` name the files: a day has 24, and with fewer or more of them nothing is settled.
+// The words from `next` up to, not including, `end` name the files: a day has 24, and with fewer or more of them nothing is settled. Not
+// inlined, so that the 24 sheets are on the stack of this command alone.
+#[inline(never)]
 pub(crate) fn run<R: Env + Files + Print + Eprint>(rt: &R, next: usize, end: usize)
     requires { next ≤ end }
 {

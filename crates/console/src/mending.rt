@@ -98,7 +98,9 @@ fn mend_sheet<R: Env + Files + Print + Eprint>(rt: &R, sheet: &[u8], out: usize)
     }
 }
 
-// The sheet is the file that word `from` names, the copy the one that word `out` names.
+// The sheet is the file that word `from` names, the copy the one that word `out` names. Not inlined, so that sheet, copy and report are on
+// the stack of this command alone.
+#[inline(never)]
 pub(crate) fn run<R: Env + Files + Print + Eprint>(rt: &R, from: usize, out: usize) {
     let mut sheet = [0u8; files::ROOM];
     if let Ok(n) = files::read_named(rt, from, &mut sheet) {
